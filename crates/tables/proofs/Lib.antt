@@ -1,0 +1,10 @@
+-- The laws of the crate, which callers cite: one file for each idea.
+pub mod Signed
+pub mod Range
+pub mod Sum
+pub mod Bound
+pub mod Limits
+pub mod Rows
+pub mod Study
+pub mod Apart
+pub mod Plans

@@ -1,0 +1,112 @@
+-- The limits of each place, region by region: `limitsAt` without its tests.
+use mathlib.Core.Path.{_≡_, refl}
+use mathlib.Core.Bool.{true, _&&_}
+use mathlib.Core.List.{List}
+use Prim.Native.Nat.{ℕ, _+_, _*_, _-_, _/_, _%_, _<_, _≤_}
+use native.Mathlib.Omega.{arith}
+use lib.Dec.{leb, ltb}
+use lib.IntN.{ℤ, pos, negsuc}
+use borrow.Author.Tests.{lt-ltb, le-ltb, le-leb, leb-true}
+use Rattle.tables.specs.Block.{maxTrains, maxChoices, maxPairs, maxCost, maxParts, sizesFrom, firstsFrom, secondsFrom, loadedChoicesFrom, heldChoicesFrom, loadedEntriesFrom, heldEntriesFrom, entriesOfPair, at, nat, figure, trains, pairs, size, first, second}
+use Rattle.tables.specs.WellFormed.{Limits, from-to, within, usedIf, choiceUsed, entryUsed, headLimits, shapeLimits, costLimits, limitsAt}
+use Rattle.tables.proofs.Range.{both-true}
+
+-- ---- within
+
+within-parts : (l : Limits) (z : ℤ) → within l z ≡ true → (z ≡ pos (nat z)) × ((l .low ≤ nat z) × (nat z ≤ l .high))
+unfolding within
+within-parts l (pos n) e = (refl, (leb-true _ _ (both-true (leb (l .low) n) (leb n (l .high)) e .0), leb-true _ _ (both-true (leb (l .low) n) (leb n (l .high)) e .1)))
+within-parts l (negsuc n) e = let z : _≡_ {A = ℕ} 0 1 = cc in absurd (omega arith)
+
+-- a place that is within its limits, as facts about its figure
+pub record Within (l : Limits) (b : List ℤ) (p : ℕ) : Type 0 where
+  pub natural : at b p ≡ pos (figure b p)
+  pub low : l .low ≤ figure b p
+  pub high : figure b p ≤ l .high
+
+pub within-figure : (l : Limits) (b : List ℤ) (p : ℕ) → within l (at b p) ≡ true → Within l b p
+unfolding figure
+within-figure l b p e = let w = within-parts l (at b p) e in record { natural = w .0; low = w .1 .0; high = w .1 .1 }
+
+pub within-pos : (l : Limits) (n : ℕ) → l .low ≤ n → n ≤ l .high → within l (pos n) ≡ true
+unfolding within
+within-pos l n p q = rw (le-leb _ _ p, le-leb _ _ q)
+
+-- ---- which offsets are used
+
+pub choice-used : (b : List ℤ) (i a : ℕ) → a < maxChoices → choiceUsed b (maxChoices * i + a) ≡ ltb i (trains b) && ltb a (size b i)
+unfolding choiceUsed
+choice-used b i a h =
+    let e : (maxChoices * i + a) / 8 ≡ i = omega arith in
+    let f : (maxChoices * i + a) % 8 ≡ a = omega arith in
+    rw (e, f)
+
+pub entry-used : (b : List ℤ) (k a c : ℕ) → a < maxChoices → c < maxChoices
+    → entryUsed b (entriesOfPair * k + (maxChoices * a + c)) ≡ ltb k (pairs b) && (ltb a (size b (first b k)) && ltb c (size b (second b k)))
+unfolding entryUsed
+entry-used b k a c h q =
+    let e : (entriesOfPair * k + (maxChoices * a + c)) / 64 ≡ k = omega arith in
+    let f : (entriesOfPair * k + (maxChoices * a + c)) % 64 / 8 ≡ a = omega arith in
+    let g : (entriesOfPair * k + (maxChoices * a + c)) % 8 ≡ c = omega arith in
+    rw (e, f, g)
+
+-- ---- the limits of each region
+
+module _ (b : List ℤ) where
+  pub limits-head : (p : ℕ) → p < sizesFrom → limitsAt b p ≡ headLimits p
+  unfolding limitsAt shapeLimits
+  limits-head p h = rw (lt-ltb p loadedChoicesFrom (omega arith), lt-ltb p sizesFrom h)
+
+  pub limits-size : (i : ℕ) → i < maxTrains → limitsAt b (sizesFrom + i) ≡ usedIf (ltb i (trains b)) (from-to 1 maxChoices)
+  unfolding limitsAt shapeLimits
+  limits-size i h =
+      let p = sizesFrom + i in
+      let e : p - sizesFrom ≡ i = omega arith in
+      rw (lt-ltb p loadedChoicesFrom (omega arith), le-ltb p sizesFrom (omega arith), lt-ltb p firstsFrom (omega arith), e)
+
+  pub limits-first : (k : ℕ) → k < maxPairs → limitsAt b (firstsFrom + k) ≡ usedIf (ltb k (pairs b)) (from-to 0 (maxTrains - 1))
+  unfolding limitsAt shapeLimits
+  limits-first k h =
+      let p = firstsFrom + k in
+      let e : p - firstsFrom ≡ k = omega arith in
+      rw (lt-ltb p loadedChoicesFrom (omega arith), le-ltb p sizesFrom (omega arith), le-ltb p firstsFrom (omega arith), lt-ltb p secondsFrom (omega arith), e)
+
+  pub limits-second : (k : ℕ) → k < maxPairs → limitsAt b (secondsFrom + k) ≡ usedIf (ltb k (pairs b)) (from-to 0 (maxTrains - 1))
+  unfolding limitsAt shapeLimits
+  limits-second k h =
+      let p = secondsFrom + k in
+      let e : p - secondsFrom ≡ k = omega arith in
+      rw (lt-ltb p loadedChoicesFrom (omega arith), le-ltb p sizesFrom (omega arith), le-ltb p firstsFrom (omega arith), le-ltb p secondsFrom (omega arith), e)
+
+  pub limits-loaded-choices : (o : ℕ) → o < maxTrains * maxChoices → limitsAt b (loadedChoicesFrom + o) ≡ usedIf (choiceUsed b o) (from-to 0 maxCost)
+  unfolding limitsAt costLimits
+  limits-loaded-choices o h =
+      let p = loadedChoicesFrom + o in
+      let e : p - loadedChoicesFrom ≡ o = omega arith in
+      rw (le-ltb p loadedChoicesFrom (omega arith), lt-ltb p heldChoicesFrom (omega arith), e)
+
+  pub limits-held-choices : (o : ℕ) → o < maxTrains * maxChoices → limitsAt b (heldChoicesFrom + o) ≡ usedIf (choiceUsed b o) (from-to 0 maxParts)
+  unfolding limitsAt costLimits
+  limits-held-choices o h =
+      let p = heldChoicesFrom + o in
+      let e : p - heldChoicesFrom ≡ o = omega arith in
+      rw (le-ltb p loadedChoicesFrom (omega arith), le-ltb p heldChoicesFrom (omega arith), lt-ltb p loadedEntriesFrom (omega arith), e)
+
+  pub limits-loaded-entries : (o : ℕ) → o < maxPairs * entriesOfPair → limitsAt b (loadedEntriesFrom + o) ≡ usedIf (entryUsed b o) (from-to 0 maxCost)
+  unfolding limitsAt costLimits
+  limits-loaded-entries o h =
+      let p = loadedEntriesFrom + o in
+      let e : p - loadedEntriesFrom ≡ o = omega arith in
+      rw (le-ltb p loadedChoicesFrom (omega arith), le-ltb p heldChoicesFrom (omega arith), le-ltb p loadedEntriesFrom (omega arith), lt-ltb p heldEntriesFrom (omega arith), e)
+
+  pub limits-held-entries : (o : ℕ) → limitsAt b (heldEntriesFrom + o) ≡ usedIf (entryUsed b o) (from-to 0 maxParts)
+  unfolding limitsAt costLimits
+  limits-held-entries o =
+      let p = heldEntriesFrom + o in
+      let e : p - heldEntriesFrom ≡ o = omega arith in
+      rw (le-ltb p loadedChoicesFrom (omega arith), le-ltb p heldChoicesFrom (omega arith), le-ltb p loadedEntriesFrom (omega arith), le-ltb p heldEntriesFrom (omega arith), e)
+
+-- the limits of the shape go by n and m alone
+pub shape-limits : (c b : List ℤ) (p : ℕ) → p < loadedChoicesFrom → trains c ≡ trains b → pairs c ≡ pairs b → limitsAt c p ≡ limitsAt b p
+unfolding limitsAt shapeLimits
+shape-limits c b p h e f = rw (lt-ltb p loadedChoicesFrom h, e, f)

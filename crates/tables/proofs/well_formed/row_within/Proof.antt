@@ -1,0 +1,44 @@
+-- A row is its used places, and the others, which are to be 0.
+use borrow.Author.Needs.{needs}
+use borrow.Author.Tests.{not-true, not-false}
+use Rattle.tables.specs.WellFormed.{from-to}
+use Rattle.tables.proofs.Rows.{row-split}
+use Rattle.tables.proofs.well_formed.row_within.Statement.{statement}
+use Rattle.tables.proofs.well_formed.row_within.Tie as tie
+
+run-within-requires : tie.Need-run-within-requires
+run-within-requires c κs = search needs
+
+returns : tie.Need-returns
+returns c =
+    let s = c .before .before in
+    let a = s .args in
+    rw (row-split (a .b .now) (a .from) (a .width) (a .used) (from-to (a .low) (a .high)) (s .pre .1), ← c .before .run-within .ensures, not-true (c .before .run-within .result) (c .if1 .taken))
+
+add-run-within : tie.Need-add-run-within
+add-run-within c = search needs
+
+sub-run-within : tie.Need-sub-run-within
+sub-run-within c = search needs
+
+run-within-requires-2 : tie.Need-run-within-requires-2
+run-within-requires-2 c κs = search needs
+
+returns-2 : tie.Need-returns-2
+returns-2 c =
+    let d = c .before in
+    let s = d .before .before in
+    let a = s .args in
+    rw (row-split (a .b .now) (a .from) (a .width) (a .used) (from-to (a .low) (a .high)) (s .pre .1), ← d .before .run-within .ensures, not-false (d .before .run-within .result) (d .if1 .left))
+    (c .run-within2 .ensures)
+
+pub row-within-spec : {M : Type 1} → statement M
+row-within-spec =
+    tie.close
+    (tie.spec
+    run-within-requires
+    returns
+    add-run-within
+    sub-run-within
+    run-within-requires-2
+    returns-2)

@@ -1,0 +1,56 @@
+-- Document 01, 'Problem and units': the shape of a problem, its costs, its plans and their totals, above the places of the block.
+use mathlib.Core.List.{List}
+use Prim.Native.Nat.{ℕ, _+_, _<_}
+use lib.IntN.{ℤ}
+use Rattle.tables.specs.Sum.{sum}
+use Rattle.tables.specs.Block.{trains, pairs, constant, size, first, second, loadedChoice, heldChoice, loadedEntry, heldEntry}
+
+-- 'A problem has n trains .. Train i has d(i) choices .. It has m pairs': variables, domains and scopes, in the words of the field
+pub record Shape : Type 0 where
+  pub trains : ℕ
+  pub size : ℕ → ℕ
+  pub pairs : ℕ
+  pub first : ℕ → ℕ
+  pub second : ℕ → ℕ
+
+-- 'a cost c_i(a) for each choice, c_ij(a,b) for each pair's two choices, and a constant c0'
+pub record Costs : Type 0 where
+  pub constant : ℕ
+  pub choice : ℕ → ℕ → ℕ
+  pub pair : ℕ → ℕ → ℕ → ℕ
+
+-- 'A plan gives each train one choice'
+unfoldable pub IsPlan : Shape → (ℕ → ℕ) → Type 0
+IsPlan s x = (i : ℕ) → i < s .trains → x i < s .size i
+
+-- the costs of a plan's choices
+unfoldable pub choiceTotal : Shape → Costs → (ℕ → ℕ) → ℕ
+choiceTotal s t x = sum (s .trains) (λ i. t .choice i (x i))
+
+-- the costs of a plan's pairs
+unfoldable pub pairTotal : Shape → Costs → (ℕ → ℕ) → ℕ
+pairTotal s t x = sum (s .pairs) (λ k. t .pair k (x (s .first k)) (x (s .second k)))
+
+-- 'Its total is c0, plus its choices' costs, plus its pairs' costs'
+unfoldable pub total : Shape → Costs → (ℕ → ℕ) → ℕ
+total s t x = t .constant + choiceTotal s t x + pairTotal s t x
+
+-- the shape that a block holds
+unfoldable pub shapeOf : List ℤ → Shape
+shapeOf b = record { trains = trains b; size = size b; pairs = pairs b; first = first b; second = second b }
+
+-- 'Loaded costs H are in points and have no constant'
+unfoldable pub loadedCosts : List ℤ → Costs
+loadedCosts b = record { constant = 0; choice = loadedChoice b; pair = loadedEntry b }
+
+-- 'Held tables T are in parts', with c0
+unfoldable pub heldCosts : List ℤ → Costs
+heldCosts b = record { constant = constant b; choice = heldChoice b; pair = heldEntry b }
+
+-- a plan's total in H, in points: its cost
+abbrev pub loadedTotal : List ℤ → (ℕ → ℕ) → ℕ
+loadedTotal b x = total (shapeOf b) (loadedCosts b) x
+
+-- a plan's total in T and c0, in parts
+abbrev pub heldTotal : List ℤ → (ℕ → ℕ) → ℕ
+heldTotal b x = total (shapeOf b) (heldCosts b) x

@@ -1,0 +1,114 @@
+-- Document 01, 'State block': when a block is well formed.
+use mathlib.Core.Path.{_≡_}
+use mathlib.Core.Bool.{Bool, true, false, cond, _&&_, _||_}
+use mathlib.Core.List.{List}
+use Prim.Native.Nat.{ℕ, _-_, _/_, _%_, _<_}
+use lib.Dec.{leb, ltb, eqb}
+use lib.IntN.{ℤ, pos, negsuc}
+use lib.ListN.{length}
+use Rattle.tables.specs.declared.well_formed.NewBlock.{NewBlock}
+use Rattle.tables.specs.declared.well_formed.NewBlock.the-variants.{Within, Outside}
+use Rattle.tables.specs.Range.{all, pass}
+use Rattle.tables.specs.Units.{scaleMin, scaleMax}
+use Rattle.tables.specs.Block.{blockLength, maxTrains, maxChoices, maxPairs, maxCost, maxParts, trainsPlace, scalePlace, pairsPlace, sizesFrom, firstsFrom, secondsFrom, loadedChoicesFrom, heldChoicesFrom, loadedEntriesFrom, heldEntriesFrom, at, trains, pairs, size, first, second}
+
+-- the least and the greatest number that a place may hold
+pub record Limits : Type 0 where
+  pub low : ℕ
+  pub high : ℕ
+
+abbrev pub from-to : ℕ → ℕ → Limits
+from-to low high = record { low = low; high = high }
+
+-- z is from low to high
+unfoldable pub within : Limits → ℤ → Bool
+within l (pos n) = leb (l .low) n && leb n (l .high)
+within l (negsuc n) = false
+
+-- 'unused places 0'
+abbrev pub usedIf : Bool → Limits → Limits
+usedIf used l = cond used l (from-to 0 0)
+
+-- the offset is that of a choice of a train: '8 × i + a'
+unfoldable pub choiceUsed : List ℤ → ℕ → Bool
+choiceUsed b o = ltb (o / 8) (trains b) && ltb (o % 8) (size b (o / 8))
+
+-- the offset is that of two choices of a pair: '64 × pair number + 8 × a + b'
+unfoldable pub entryUsed : List ℤ → ℕ → Bool
+entryUsed b o = ltb (o / 64) (pairs b) && (ltb (o % 64 / 8) (size b (first b (o / 64))) && ltb (o % 8) (size b (second b (o / 64))))
+
+-- 'n is 1 to 24, s 1 to 1000, m 0 to 48, .. c0 .. 0 to L'
+unfoldable pub headLimits : ℕ → Limits
+headLimits p =
+    cond (eqb p trainsPlace) (from-to 1 maxTrains)
+    (cond (eqb p scalePlace) (from-to scaleMin scaleMax)
+    (cond (eqb p pairsPlace) (from-to 0 maxPairs) (from-to 0 maxParts)))
+
+-- 'sizes 1 to 8', and the two trains of each pair
+unfoldable pub shapeLimits : List ℤ → ℕ → Limits
+shapeLimits b p =
+    cond (ltb p sizesFrom) (headLimits p)
+    (cond (ltb p firstsFrom) (usedIf (ltb (p - sizesFrom) (trains b)) (from-to 1 maxChoices))
+    (cond (ltb p secondsFrom) (usedIf (ltb (p - firstsFrom) (pairs b)) (from-to 0 (maxTrains - 1)))
+    (usedIf (ltb (p - secondsFrom) (pairs b)) (from-to 0 (maxTrains - 1)))))
+
+-- 'H 0 to 1,000,000, .. T 0 to L'
+unfoldable pub costLimits : List ℤ → ℕ → Limits
+costLimits b p =
+    cond (ltb p heldChoicesFrom) (usedIf (choiceUsed b (p - loadedChoicesFrom)) (from-to 0 maxCost))
+    (cond (ltb p loadedEntriesFrom) (usedIf (choiceUsed b (p - heldChoicesFrom)) (from-to 0 maxParts))
+    (cond (ltb p heldEntriesFrom) (usedIf (entryUsed b (p - loadedEntriesFrom)) (from-to 0 maxCost))
+    (usedIf (entryUsed b (p - heldEntriesFrom)) (from-to 0 maxParts))))
+
+-- what place p may hold
+unfoldable pub limitsAt : List ℤ → ℕ → Limits
+limitsAt b p = cond (ltb p loadedChoicesFrom) (shapeLimits b p) (costLimits b p)
+
+-- every place is within its limits
+abbrev pub placeRight : List ℤ → ℕ → ℤ → Bool
+placeRight b p z = within (limitsAt b p) z
+
+unfoldable pub placesRight : List ℤ → Bool
+placesRight b = pass (placeRight b) 0 b
+
+-- pair (i, j) comes before pair (k, l): 'strictly ascending by (i, j)'
+unfoldable pub before : ℕ → ℕ → ℕ → ℕ → Bool
+before i j k l = ltb i k || (eqb i k && ltb j l)
+
+-- pair k comes after the one before it, where there is one
+unfoldable pub follows : List ℤ → ℕ → Bool
+follows b k = eqb k 0 || before (first b (k - 1)) (second b (k - 1)) (first b k) (second b k)
+
+-- 'i not below j, j not below n, pair not after the last' is none of it
+unfoldable pub pairRight : List ℤ → ℕ → Bool
+pairRight b k = ltb (first b k) (second b k) && (ltb (second b k) (trains b) && follows b k)
+
+-- 'm pairs i < j, strictly ascending by (i, j)'
+unfoldable pub pairsRight : List ℤ → Bool
+pairsRight b = all (pairs b) (pairRight b)
+
+-- 'Fresh is all zeros'
+unfoldable pub isZero : ℤ → Bool
+isZero (pos n) = eqb n 0
+isZero (negsuc n) = false
+
+unfoldable pub fresh : List ℤ → Bool
+fresh b = pass (λ p z. isZero z) 0 b
+
+-- the second half of 'well formed': a block that holds a loaded study
+unfoldable pub holdsStudy : List ℤ → Bool
+holdsStudy b = placesRight b && pairsRight b
+
+-- 'A block is well formed if fresh, or ..'
+unfoldable pub wellFormed : List ℤ → Bool
+wellFormed b = eqb (length b) blockLength && (fresh b || holdsStudy b)
+
+-- the block of these numbers, where they are well formed
+abbrev pub newBlock : List ℤ → NewBlock
+newBlock b = cond (wellFormed b) (Within (record { fresh = fresh b })) Outside
+
+-- a well-formed block that is not fresh, as facts: what the operations ask of their block
+pub record Study (b : List ℤ) : Type 0 where
+  pub whole : length b ≡ blockLength
+  pub places : (p : ℕ) → p < blockLength → within (limitsAt b p) (at b p) ≡ true
+  pub ordered : (k : ℕ) → k < pairs b → pairRight b k ≡ true

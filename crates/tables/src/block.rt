@@ -1,0 +1,297 @@
+// Document 01, 'State block': where everything stands in the block, its readers and its writers.
+ghost use mathlib.Core.Path.{_≡_};
+ghost use Prim.Native.Nat.{_+_, _*_, _<_, _≤_, _^_};
+ghost use lib.IntN.{pos};
+ghost use lib.ListN.{length, set};
+ghost use Rattle.tables.specs.Units.{scaleMin, scaleMax};
+ghost use Rattle.tables.specs.Block.{blockLength, entriesOfPair, maxTrains, maxChoices, maxPairs, trainsPlace, scalePlace, pairsPlace, constantPlace, sizePlace, firstPlace, secondPlace, choicePlace, entryPlace, figure, loadedChoicePlace, heldChoicePlace, loadedEntryPlace, heldEntryPlace, trains, scale, pairs, constant, size, first, second, loadedChoice, heldChoice, loadedEntry, heldEntry};
+use crate::places;
+use crate::units::Parts;
+use crate::units::Points;
+use crate::units::Scale;
+
+// A well-formed block. Its numbers are lent, as a slice; this type carries the limits, the layout, and whether all numbers are 0.
+pub struct Block {
+    fresh: bool,
+}
+
+impl Block {
+    // How many numbers a block has.
+    pub const LENGTH: usize = 6652;
+    // The most trains.
+    pub const TRAINS: usize = 24;
+    // The most choices of a train.
+    pub const CHOICES: usize = 8;
+    // The most pairs.
+    pub const PAIRS: usize = 48;
+    // The highest loaded cost, in points.
+    pub const COST: u64 = 1000000;
+    // The highest held cost, and the highest constant, in parts: L.
+    pub const PARTS: u64 = 72000000000;
+    // Where n stands.
+    pub const TRAINS_PLACE: usize = 0;
+    // Where s stands.
+    pub const SCALE_PLACE: usize = 1;
+    // Where m stands.
+    pub const PAIRS_PLACE: usize = 2;
+    // Where c0 stands.
+    pub const CONSTANT_PLACE: usize = 3;
+    // Where the sizes begin.
+    pub const SIZES_FROM: usize = 4;
+    // Where the pairs' first trains begin.
+    pub const FIRSTS_FROM: usize = 28;
+    // Where the pairs' second trains begin.
+    pub const SECONDS_FROM: usize = 76;
+    // Where H of the choices begins.
+    pub const LOADED_CHOICES_FROM: usize = 124;
+    // Where T of the choices begins.
+    pub const HELD_CHOICES_FROM: usize = 316;
+    // Where H of the pairs begins.
+    pub const LOADED_ENTRIES_FROM: usize = 508;
+    // Where T of the pairs begins.
+    pub const HELD_ENTRIES_FROM: usize = 3580;
+    // How many places a pair has in a table.
+    pub const ENTRIES: usize = 64;
+
+    // The block of numbers that are known to be well formed.
+    pub fn known(fresh: bool) -> Block
+        ensures { λ r. ⌜ r .fresh ≡ fresh ⌝ }
+    {
+        Block { fresh }
+    }
+
+    // Whether the block is fresh.
+    pub fn is_fresh(self) -> bool
+        ensures { λ r. ⌜ r ≡ self .fresh ⌝ }
+    {
+        self.fresh
+    }
+}
+
+// Where choice a of train i stands, in the table of choices that begins at `from`.
+pub fn choice_place(from: usize, i: usize, a: usize) -> usize
+    requires { ⌜ (from < blockLength) × (i < maxTrains) × (a < maxChoices) ⌝ }
+    ensures { λ r. ⌜ r ≡ choicePlace from i a ⌝ }
+{
+    from + (Block::CHOICES * i + a)
+}
+
+// Where the choices a and c of pair k stand, in the table of pairs that begins at `from`.
+pub fn entry_place(from: usize, k: usize, a: usize, c: usize) -> usize
+    requires { ⌜ (from < blockLength) × (k < maxPairs) × (a < maxChoices) × (c < maxChoices) ⌝ }
+    ensures { λ r. ⌜ r ≡ entryPlace from k a c ⌝ }
+{
+    from + (Block::ENTRIES * k + Block::CHOICES * a + c)
+}
+
+// The choice's number in the table that begins at `from`.
+fn choice_at(b: &[i64], from: usize, i: usize, a: usize) -> u64
+    requires { ⌜ (length (now b) ≡ blockLength) × (from + maxTrains * maxChoices ≤ blockLength) × (i < maxTrains) × (a < maxChoices) ⌝ }
+    ensures { λ r. ⌜ r ≡ figure (now (b .entry)) (choicePlace from i a) ⌝ }
+{
+    places::get(b, choice_place(from, i, a))
+}
+
+// The number of a pair's two choices in the table that begins at `from`.
+fn entry_at(b: &[i64], from: usize, k: usize, a: usize, c: usize) -> u64
+    requires { ⌜ (length (now b) ≡ blockLength) × (from + maxPairs * entriesOfPair ≤ blockLength) × (k < maxPairs) × (a < maxChoices) × (c < maxChoices) ⌝ }
+    ensures { λ r. ⌜ r ≡ figure (now (b .entry)) (entryPlace from k a c) ⌝ }
+{
+    places::get(b, entry_place(from, k, a, c))
+}
+
+// Stores v at a choice's place in the table that begins at `from`.
+fn put_choice_at(b: &mut [i64], from: usize, i: usize, a: usize, v: u64)
+    requires { ⌜ (length (now b) ≡ blockLength) × (from + maxTrains * maxChoices ≤ blockLength) × (i < maxTrains) × (a < maxChoices) × (v < 2 ^ 63) ⌝ }
+    ensures { λ _. ⌜ now (b .exit) ≡ set (now (b .entry)) (choicePlace from i a) (pos v) ⌝ }
+{
+    places::put(b, choice_place(from, i, a), v);
+}
+
+// Stores v at the place of a pair's two choices in the table that begins at `from`.
+fn put_entry_at(b: &mut [i64], from: usize, k: usize, a: usize, c: usize, v: u64)
+    requires { ⌜ (length (now b) ≡ blockLength) × (from + maxPairs * entriesOfPair ≤ blockLength) × (k < maxPairs) × (a < maxChoices) × (c < maxChoices) × (v < 2 ^ 63) ⌝ }
+    ensures { λ _. ⌜ now (b .exit) ≡ set (now (b .entry)) (entryPlace from k a c) (pos v) ⌝ }
+{
+    places::put(b, entry_place(from, k, a, c), v);
+}
+
+// ---- readers
+
+// n.
+pub fn trains(b: &[i64]) -> usize
+    requires { ⌜ length (now b) ≡ blockLength ⌝ }
+    ensures { λ r. ⌜ r ≡ trains (now (b .entry)) ⌝ }
+{
+    places::get(b, Block::TRAINS_PLACE) as usize
+}
+
+// s.
+pub fn scale(b: &[i64]) -> Scale
+    requires { ⌜ (length (now b) ≡ blockLength) × (scaleMin ≤ scale (now b)) × (scale (now b) ≤ scaleMax) ⌝ }
+    ensures { λ r. ⌜ r .0 ≡ scale (now (b .entry)) ⌝ }
+{
+    Scale::known(places::get(b, Block::SCALE_PLACE))
+}
+
+// m.
+pub fn pairs(b: &[i64]) -> usize
+    requires { ⌜ length (now b) ≡ blockLength ⌝ }
+    ensures { λ r. ⌜ r ≡ pairs (now (b .entry)) ⌝ }
+{
+    places::get(b, Block::PAIRS_PLACE) as usize
+}
+
+// c0.
+pub fn constant(b: &[i64]) -> Parts
+    requires { ⌜ length (now b) ≡ blockLength ⌝ }
+    ensures { λ r. ⌜ r .0 ≡ constant (now (b .entry)) ⌝ }
+{
+    Parts(places::get(b, Block::CONSTANT_PLACE))
+}
+
+// The number of choices of train i.
+pub fn size(b: &[i64], i: usize) -> usize
+    requires { ⌜ (length (now b) ≡ blockLength) × (i < maxTrains) ⌝ }
+    ensures { λ r. ⌜ r ≡ size (now (b .entry)) i ⌝ }
+{
+    places::get(b, Block::SIZES_FROM + i) as usize
+}
+
+// The first train of pair k.
+pub fn first(b: &[i64], k: usize) -> usize
+    requires { ⌜ (length (now b) ≡ blockLength) × (k < maxPairs) ⌝ }
+    ensures { λ r. ⌜ r ≡ first (now (b .entry)) k ⌝ }
+{
+    places::get(b, Block::FIRSTS_FROM + k) as usize
+}
+
+// The second train of pair k.
+pub fn second(b: &[i64], k: usize) -> usize
+    requires { ⌜ (length (now b) ≡ blockLength) × (k < maxPairs) ⌝ }
+    ensures { λ r. ⌜ r ≡ second (now (b .entry)) k ⌝ }
+{
+    places::get(b, Block::SECONDS_FROM + k) as usize
+}
+
+// H of choice a of train i.
+pub fn loaded_choice(b: &[i64], i: usize, a: usize) -> Points
+    requires { ⌜ (length (now b) ≡ blockLength) × (i < maxTrains) × (a < maxChoices) ⌝ }
+    ensures { λ r. ⌜ r .0 ≡ loadedChoice (now (b .entry)) i a ⌝ }
+{
+    Points(choice_at(b, Block::LOADED_CHOICES_FROM, i, a))
+}
+
+// T of choice a of train i.
+pub fn held_choice(b: &[i64], i: usize, a: usize) -> Parts
+    requires { ⌜ (length (now b) ≡ blockLength) × (i < maxTrains) × (a < maxChoices) ⌝ }
+    ensures { λ r. ⌜ r .0 ≡ heldChoice (now (b .entry)) i a ⌝ }
+{
+    Parts(choice_at(b, Block::HELD_CHOICES_FROM, i, a))
+}
+
+// H of the choices a and c of pair k.
+pub fn loaded_entry(b: &[i64], k: usize, a: usize, c: usize) -> Points
+    requires { ⌜ (length (now b) ≡ blockLength) × (k < maxPairs) × (a < maxChoices) × (c < maxChoices) ⌝ }
+    ensures { λ r. ⌜ r .0 ≡ loadedEntry (now (b .entry)) k a c ⌝ }
+{
+    Points(entry_at(b, Block::LOADED_ENTRIES_FROM, k, a, c))
+}
+
+// T of the choices a and c of pair k.
+pub fn held_entry(b: &[i64], k: usize, a: usize, c: usize) -> Parts
+    requires { ⌜ (length (now b) ≡ blockLength) × (k < maxPairs) × (a < maxChoices) × (c < maxChoices) ⌝ }
+    ensures { λ r. ⌜ r .0 ≡ heldEntry (now (b .entry)) k a c ⌝ }
+{
+    Parts(entry_at(b, Block::HELD_ENTRIES_FROM, k, a, c))
+}
+
+// ---- writers
+
+// Stores n.
+pub fn put_trains(b: &mut [i64], n: usize)
+    requires { ⌜ (length (now b) ≡ blockLength) × (n < 2 ^ 63) ⌝ }
+    ensures { λ _. ⌜ now (b .exit) ≡ set (now (b .entry)) trainsPlace (pos (n)) ⌝ }
+{
+    places::put(b, Block::TRAINS_PLACE, n as u64);
+}
+
+// Stores s.
+pub fn put_scale(b: &mut [i64], s: Scale)
+    requires { ⌜ (length (now b) ≡ blockLength) × (s .0 < 2 ^ 63) ⌝ }
+    ensures { λ _. ⌜ now (b .exit) ≡ set (now (b .entry)) scalePlace (pos (s .0)) ⌝ }
+{
+    places::put(b, Block::SCALE_PLACE, s.number());
+}
+
+// Stores m.
+pub fn put_pairs(b: &mut [i64], m: usize)
+    requires { ⌜ (length (now b) ≡ blockLength) × (m < 2 ^ 63) ⌝ }
+    ensures { λ _. ⌜ now (b .exit) ≡ set (now (b .entry)) pairsPlace (pos (m)) ⌝ }
+{
+    places::put(b, Block::PAIRS_PLACE, m as u64);
+}
+
+// Stores c0.
+pub fn put_constant(b: &mut [i64], v: Parts)
+    requires { ⌜ (length (now b) ≡ blockLength) × (v .0 < 2 ^ 63) ⌝ }
+    ensures { λ _. ⌜ now (b .exit) ≡ set (now (b .entry)) constantPlace (pos (v .0)) ⌝ }
+{
+    places::put(b, Block::CONSTANT_PLACE, v.0);
+}
+
+// Stores the size of train i.
+pub fn put_size(b: &mut [i64], i: usize, d: usize)
+    requires { ⌜ (length (now b) ≡ blockLength) × (i < maxTrains) × (d < 2 ^ 63) ⌝ }
+    ensures { λ _. ⌜ now (b .exit) ≡ set (now (b .entry)) (sizePlace i) (pos (d)) ⌝ }
+{
+    places::put(b, Block::SIZES_FROM + i, d as u64);
+}
+
+// Stores the first train of pair k.
+pub fn put_first(b: &mut [i64], k: usize, i: usize)
+    requires { ⌜ (length (now b) ≡ blockLength) × (k < maxPairs) × (i < 2 ^ 63) ⌝ }
+    ensures { λ _. ⌜ now (b .exit) ≡ set (now (b .entry)) (firstPlace k) (pos (i)) ⌝ }
+{
+    places::put(b, Block::FIRSTS_FROM + k, i as u64);
+}
+
+// Stores the second train of pair k.
+pub fn put_second(b: &mut [i64], k: usize, j: usize)
+    requires { ⌜ (length (now b) ≡ blockLength) × (k < maxPairs) × (j < 2 ^ 63) ⌝ }
+    ensures { λ _. ⌜ now (b .exit) ≡ set (now (b .entry)) (secondPlace k) (pos (j)) ⌝ }
+{
+    places::put(b, Block::SECONDS_FROM + k, j as u64);
+}
+
+// Stores H of choice a of train i.
+pub fn put_loaded_choice(b: &mut [i64], i: usize, a: usize, v: Points)
+    requires { ⌜ (length (now b) ≡ blockLength) × (i < maxTrains) × (a < maxChoices) × (v .0 < 2 ^ 63) ⌝ }
+    ensures { λ _. ⌜ now (b .exit) ≡ set (now (b .entry)) (loadedChoicePlace i a) (pos (v .0)) ⌝ }
+{
+    put_choice_at(b, Block::LOADED_CHOICES_FROM, i, a, v.0);
+}
+
+// Stores T of choice a of train i.
+pub fn put_held_choice(b: &mut [i64], i: usize, a: usize, v: Parts)
+    requires { ⌜ (length (now b) ≡ blockLength) × (i < maxTrains) × (a < maxChoices) × (v .0 < 2 ^ 63) ⌝ }
+    ensures { λ _. ⌜ now (b .exit) ≡ set (now (b .entry)) (heldChoicePlace i a) (pos (v .0)) ⌝ }
+{
+    put_choice_at(b, Block::HELD_CHOICES_FROM, i, a, v.0);
+}
+
+// Stores H of the choices a and c of pair k.
+pub fn put_loaded_entry(b: &mut [i64], k: usize, a: usize, c: usize, v: Points)
+    requires { ⌜ (length (now b) ≡ blockLength) × (k < maxPairs) × (a < maxChoices) × (c < maxChoices) × (v .0 < 2 ^ 63) ⌝ }
+    ensures { λ _. ⌜ now (b .exit) ≡ set (now (b .entry)) (loadedEntryPlace k a c) (pos (v .0)) ⌝ }
+{
+    put_entry_at(b, Block::LOADED_ENTRIES_FROM, k, a, c, v.0);
+}
+
+// Stores T of the choices a and c of pair k.
+pub fn put_held_entry(b: &mut [i64], k: usize, a: usize, c: usize, v: Parts)
+    requires { ⌜ (length (now b) ≡ blockLength) × (k < maxPairs) × (a < maxChoices) × (c < maxChoices) × (v .0 < 2 ^ 63) ⌝ }
+    ensures { λ _. ⌜ now (b .exit) ≡ set (now (b .entry)) (heldEntryPlace k a c) (pos (v .0)) ⌝ }
+{
+    put_entry_at(b, Block::HELD_ENTRIES_FROM, k, a, c, v.0);
+}

@@ -1,0 +1,43 @@
+// One place of a lent block. The block is signed, and above these functions all numbers are natural.
+ghost use mathlib.Core.Path.{_≡_};
+ghost use Prim.Native.Nat.{_<_, _^_};
+ghost use lib.IntN.{pos};
+ghost use lib.ListN.{length, set};
+ghost use Rattle.tables.specs.Block.{at, figure};
+ghost use Rattle.tables.specs.WellFormed.{from-to, within};
+
+// The number at place p, 0 where it is negative.
+pub fn get(b: &[i64], p: usize) -> u64
+    requires { ⌜ p < length (now b) ⌝ }
+    ensures { λ r. ⌜ r ≡ figure (now (b .entry)) p ⌝ }
+{
+    let z = b[p];
+    if z < 0 {
+        return 0;
+    }
+    z as u64
+}
+
+// Stores v at place p.
+pub fn put(b: &mut [i64], p: usize, v: u64)
+    requires { ⌜ (p < length (now b)) × (v < 2 ^ 63) ⌝ }
+    ensures { λ _. ⌜ now (b .exit) ≡ set (now (b .entry)) p (pos v) ⌝ }
+{
+    b[p] = v as i64;
+}
+
+// Whether the number at place p is from low to high.
+pub fn is_within(b: &[i64], p: usize, low: u64, high: u64) -> bool
+    requires { ⌜ p < length (now b) ⌝ }
+    ensures { λ r. ⌜ r ≡ within (from-to low high) (at (now (b .entry)) p) ⌝ }
+{
+    let z = b[p];
+    if z < 0 {
+        return false;
+    }
+    let n = z as u64;
+    if n < low {
+        return false;
+    }
+    n <= high
+}
