@@ -2,6 +2,8 @@ pub mod Sum
 pub mod Range
 pub mod Units
 pub mod Block
+pub mod Ranges
 pub mod WellFormed
 pub mod Rows
+pub mod Numbers
 pub mod Plans

@@ -1,0 +1,82 @@
+-- Document 01, '05 certify': weights, their sums, E and whether the ceiling is reached.
+use mathlib.Core.Path.{_≡_}
+use mathlib.Core.Bool.{Bool, cond, _&&_}
+use mathlib.Core.List.{List}
+use Prim.Native.Nat.{ℕ, _+_, _*_, _^_, _<_}
+use lib.Dec.{eqb}
+use lib.IntN.{ℤ}
+use lib.ListN.{length, getD}
+use Rattle.tables.specs.Sum.{sum}
+use Rattle.tables.specs.Range.{all}
+use Rattle.tables.specs.Block.{trains, pairs, constant, size, first, second}
+use Rattle.tables.specs.Plans.{Shape, Costs, shapeOf, heldCosts}
+use Rattle.certificates.specs.declared.certify.Certificate.{Certificate}
+use Rattle.certificates.specs.declared.certify.Certificate.the-variants.{Unbalanced, Balanced}
+
+-- '(3 each)': what is above each weight of a line
+abbrev pub weightsBelow : ℕ
+weightsBelow = 2 ^ 24
+
+-- 'W (3), weights w_i(a), weights z_ij(a,b)'
+pub record Weights : Type 0 where
+  pub whole : ℕ
+  pub choice : ℕ → ℕ → ℕ
+  pub pair : ℕ → ℕ → ℕ → ℕ
+
+-- 'Each train's w sum to W'
+unfoldable pub trainBalanced : Shape → Weights → ℕ → Bool
+trainBalanced s w i = eqb (sum (s .size i) (λ a. w .choice i a)) (w .whole)
+
+-- 'Each row of z sums to w_i(a)'
+unfoldable pub rowBalanced : Shape → Weights → ℕ → ℕ → Bool
+rowBalanced s w k a = eqb (sum (s .size (s .second k)) (λ c. w .pair k a c)) (w .choice (s .first k) a)
+
+-- 'each column to w_j(b)'
+unfoldable pub columnBalanced : Shape → Weights → ℕ → ℕ → Bool
+columnBalanced s w k c = eqb (sum (s .size (s .first k)) (λ a. w .pair k a c)) (w .choice (s .second k) c)
+
+unfoldable pub pairBalanced : Shape → Weights → ℕ → Bool
+pairBalanced s w k = all (s .size (s .first k)) (rowBalanced s w k) && all (s .size (s .second k)) (columnBalanced s w k)
+
+-- the weights' sums agree; else 14
+unfoldable pub balanced : Shape → Weights → Bool
+balanced s w = all (s .trains) (trainBalanced s w) && all (s .pairs) (pairBalanced s w)
+
+-- 'sum of w × c_i' and 'sum of z × c_ij'
+unfoldable pub overChoices : Shape → Weights → (ℕ → ℕ → ℕ) → ℕ
+overChoices s w f = sum (s .trains) (λ i. sum (s .size i) (λ a. w .choice i a * f i a))
+
+unfoldable pub overPairs : Shape → Weights → (ℕ → ℕ → ℕ → ℕ) → ℕ
+overPairs s w f = sum (s .pairs) (λ k. sum (s .size (s .first k)) (λ a. sum (s .size (s .second k)) (λ c. w .pair k a c * f k a c)))
+
+-- 'E = W × c0 + sum of w × c_i + sum of z × c_ij'
+unfoldable pub weighted : Shape → Weights → Costs → ℕ
+weighted s w t = w .whole * t .constant + overChoices s w (t .choice) + overPairs s w (t .pair)
+
+-- the weights of a line, 'ordered as in a load': all w, then all z
+abbrev pub choiceStart : List ℤ → ℕ → ℕ
+choiceStart b i = sum i (size b)
+
+abbrev pub entryStart : List ℤ → ℕ → ℕ
+entryStart b k = sum k (λ l. size b (first b l) * size b (second b l))
+
+abbrev pub weightsOf : List ℤ → ℕ → List ℕ → Weights
+weightsOf b whole l =
+    record {
+      whole = whole;
+      choice = λ i a. getD l (choiceStart b i + a) 0;
+      pair = λ k a c. getD l (choiceStart b (trains b) + (entryStart b k + (size b (second b k) * a + c))) 0;
+    }
+
+-- a line's weights: one for each choice and for each pair's two choices, none judged but by its 3 bytes
+pub record WeightsFor (b : List ℤ) (l : List ℕ) : Type 0 where
+  pub count : length l ≡ choiceStart b (trains b) + entryStart b (pairs b)
+  pub small : (p : ℕ) → p < length l → getD l p 0 < weightsBelow
+
+-- E of a line's weights
+abbrev pub ceiling : List ℤ → Weights → ℕ
+ceiling b w = weighted (shapeOf b) w (heldCosts b)
+
+-- 'Reached means E = W × c0'
+abbrev pub certificate : List ℤ → Weights → Certificate
+certificate b w = cond (balanced (shapeOf b) w) (Balanced (record { reached = eqb (ceiling b w) (w .whole * constant b); weighted = ceiling b w })) Unbalanced

@@ -1,0 +1,3 @@
+pub mod Certify
+pub mod Runs
+pub mod Rival

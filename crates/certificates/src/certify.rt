@@ -1,0 +1,245 @@
+// Document 01, '05 certify'. The weights' sums are judged first; after that no weight is above W, so that E fits.
+ghost use mathlib.Core.Path.{_≡_};
+ghost use Prim.Native.Nat.{_<_, _≤_};
+ghost use Rattle.tables.specs.Block.{trains, pairs};
+ghost use Rattle.tables.specs.Ranges.{maxWhole};
+ghost use Rattle.tables.specs.WellFormed.{Study};
+ghost use Rattle.certificates.specs.Certify.{WeightsFor, choiceStart, weightsOf, certificate};
+ghost use Rattle.certificates.specs.Runs.{runSum, Run, runWeighted, Light, runsMatch, Runs, trainsMatch, entries, PairFrom, pairMatches, pairsMatch, trainsWeighted, pairWeighted, pairsWeighted, LightRuns};
+use tables::block;
+use tables::block::Block;
+use tables::places;
+
+// What a certificate with the right sums shows.
+pub struct Ceiling {
+    // E = W × c0.
+    pub reached: bool,
+    // E.
+    pub weighted: u64,
+}
+
+pub enum Certificate {
+    // The weights' sums disagree.
+    Unbalanced,
+    Balanced(Ceiling),
+}
+
+// Judges the weights' sums, then gives E and whether the ceiling is reached.
+pub fn certify(block: &[i64], whole: u64, weights: &[u64]) -> Certificate
+    requires { ⌜ Study (now block) ⌝ }
+    requires { ⌜ whole ≤ maxWhole ⌝ }
+    requires { ⌜ WeightsFor (now block) (now weights) ⌝ }
+    ensures { λ r. ⌜ r ≡ certificate (now (block .entry)) (weightsOf (now (block .entry)) whole (now (weights .entry))) ⌝ }
+{
+    if !trains_match(block, weights, whole) {
+        return Certificate::Unbalanced;
+    }
+    if !pairs_match(block, weights) {
+        return Certificate::Unbalanced;
+    }
+    let floor = whole * block::constant(block).0;
+    let choices = trains_weighted(block, weights);
+    let entries = pairs_weighted(block, weights);
+    let weighted = floor + choices + entries;
+    Certificate::Balanced(Ceiling {
+        reached: weighted == floor,
+        weighted,
+    })
+}
+
+// ---- one run of weights
+
+// The sum of `count` weights from `from` on, `step` apart.
+fn run_sum(weights: &[u64], from: usize, step: usize, count: usize) -> u64
+    requires { ⌜ Run (now weights) from step count ⌝ }
+    ensures { λ r. ⌜ r ≡ runSum (now (weights .entry)) from step count ⌝ }
+{
+    let mut sum = 0;
+    let mut k = 0;
+    while k < count {
+        sum += weights[from + step * k];
+        k += 1;
+    }
+    sum
+}
+
+// The sum of `count` weights from `from` on, each times the number at its place of the block, from `place` on.
+fn run_weighted(weights: &[u64], from: usize, b: &[i64], place: usize, count: usize) -> u64
+    requires { ⌜ Light (now weights) from (now b) place count ⌝ }
+    ensures { λ r. ⌜ r ≡ runWeighted (now (weights .entry)) from (now (b .entry)) place count ⌝ }
+{
+    let mut sum = 0;
+    let mut k = 0;
+    while k < count {
+        sum += weights[from + k] * places::get(b, place + k);
+        k += 1;
+    }
+    sum
+}
+
+// ---- the sums
+
+// Whether `runs` runs, the first from `from` on and each `apart` further than the one before, sum to the weights from `choices` on.
+fn runs_match(
+    weights: &[u64],
+    from: usize,
+    apart: usize,
+    step: usize,
+    count: usize,
+    choices: usize,
+    runs: usize,
+) -> bool
+    requires { ⌜ Runs (now weights) from apart step count choices runs ⌝ }
+    ensures { λ r. ⌜ r ≡ runsMatch (now (weights .entry)) from apart step count choices runs ⌝ }
+{
+    let mut r = 0;
+    while r < runs {
+        if run_sum(weights, from + apart * r, step, count) != weights[choices + r] {
+            return false;
+        }
+        r += 1;
+    }
+    true
+}
+
+// Whether each train's weights sum to the whole.
+fn trains_match(b: &[i64], weights: &[u64], whole: u64) -> bool
+    requires { ⌜ Study (now b) ⌝ }
+    requires { ⌜ WeightsFor (now b) (now weights) ⌝ }
+    ensures { λ r. ⌜ r ≡ trainsMatch (now (b .entry)) (now (weights .entry)) whole ⌝ }
+{
+    let n = block::trains(b);
+    let mut start = 0;
+    let mut i = 0;
+    while i < n {
+        let d = block::size(b, i);
+        if run_sum(weights, start, 1, d) != whole {
+            return false;
+        }
+        start += d;
+        i += 1;
+    }
+    true
+}
+
+// Where the weights of train i begin.
+fn choice_start(b: &[i64], i: usize) -> usize
+    requires { ⌜ Study (now b) ⌝ }
+    requires { ⌜ i ≤ trains (now b) ⌝ }
+    ensures { λ r. ⌜ r ≡ choiceStart (now (b .entry)) i ⌝ }
+{
+    let mut start = 0;
+    let mut k = 0;
+    while k < i {
+        start += block::size(b, k);
+        k += 1;
+    }
+    start
+}
+
+// How many entries pair k has.
+fn entries(b: &[i64], k: usize) -> usize
+    requires { ⌜ Study (now b) ⌝ }
+    requires { ⌜ k < pairs (now b) ⌝ }
+    ensures { λ r. ⌜ r ≡ entries (now (b .entry)) k ⌝ }
+{
+    block::size(b, block::first(b, k)) * block::size(b, block::second(b, k))
+}
+
+// Whether the rows of pair k, whose weights begin at `from`, sum to the weights of its first train, and its columns to those of its second.
+fn pair_matches(b: &[i64], weights: &[u64], k: usize, from: usize) -> bool
+    requires { ⌜ Study (now b) ⌝ }
+    requires { ⌜ WeightsFor (now b) (now weights) ⌝ }
+    requires { ⌜ PairFrom (now b) k from ⌝ }
+    ensures { λ r. ⌜ r ≡ pairMatches (now (b .entry)) (now (weights .entry)) k ⌝ }
+{
+    let i = block::first(b, k);
+    let j = block::second(b, k);
+    let rows = block::size(b, i);
+    let columns = block::size(b, j);
+    if !runs_match(weights, from, columns, 1, columns, choice_start(b, i), rows) {
+        return false;
+    }
+    runs_match(weights, from, 1, columns, rows, choice_start(b, j), columns)
+}
+
+// Whether the rows and columns of every pair sum to the weights of its trains.
+fn pairs_match(b: &[i64], weights: &[u64]) -> bool
+    requires { ⌜ Study (now b) ⌝ }
+    requires { ⌜ WeightsFor (now b) (now weights) ⌝ }
+    ensures { λ r. ⌜ r ≡ pairsMatch (now (b .entry)) (now (weights .entry)) ⌝ }
+{
+    let m = block::pairs(b);
+    let mut from = choice_start(b, block::trains(b));
+    let mut k = 0;
+    while k < m {
+        if !pair_matches(b, weights, k, from) {
+            return false;
+        }
+        from += entries(b, k);
+        k += 1;
+    }
+    true
+}
+
+// ---- E
+
+// The choices' part of E.
+fn trains_weighted(b: &[i64], weights: &[u64]) -> u64
+    requires { ⌜ Study (now b) ⌝ }
+    requires { ⌜ WeightsFor (now b) (now weights) ⌝ }
+    requires { ⌜ LightRuns (now b) (now weights) ⌝ }
+    ensures { λ r. ⌜ r ≡ trainsWeighted (now (b .entry)) (now (weights .entry)) ⌝ }
+{
+    let n = block::trains(b);
+    let mut sum = 0;
+    let mut start = 0;
+    let mut i = 0;
+    while i < n {
+        let d = block::size(b, i);
+        let place = block::choice_place(Block::HELD_CHOICES_FROM, i, 0);
+        sum += run_weighted(weights, start, b, place, d);
+        start += d;
+        i += 1;
+    }
+    sum
+}
+
+// The part that pair k, whose weights begin at `from`, has in E.
+fn pair_weighted(b: &[i64], weights: &[u64], k: usize, from: usize) -> u64
+    requires { ⌜ Study (now b) ⌝ }
+    requires { ⌜ WeightsFor (now b) (now weights) ⌝ }
+    requires { ⌜ LightRuns (now b) (now weights) ⌝ }
+    requires { ⌜ PairFrom (now b) k from ⌝ }
+    ensures { λ r. ⌜ r ≡ pairWeighted (now (b .entry)) (now (weights .entry)) k ⌝ }
+{
+    let rows = block::size(b, block::first(b, k));
+    let columns = block::size(b, block::second(b, k));
+    let mut sum = 0;
+    let mut a = 0;
+    while a < rows {
+        let place = block::entry_place(Block::HELD_ENTRIES_FROM, k, a, 0);
+        sum += run_weighted(weights, from + columns * a, b, place, columns);
+        a += 1;
+    }
+    sum
+}
+
+// The pairs' part of E.
+fn pairs_weighted(b: &[i64], weights: &[u64]) -> u64
+    requires { ⌜ Study (now b) ⌝ }
+    requires { ⌜ WeightsFor (now b) (now weights) ⌝ }
+    requires { ⌜ LightRuns (now b) (now weights) ⌝ }
+    ensures { λ r. ⌜ r ≡ pairsWeighted (now (b .entry)) (now (weights .entry)) ⌝ }
+{
+    let m = block::pairs(b);
+    let mut sum = 0;
+    let mut from = choice_start(b, block::trains(b));
+    let mut k = 0;
+    while k < m {
+        sum += pair_weighted(b, weights, k, from);
+        from += entries(b, k);
+        k += 1;
+    }
+    sum
+}

@@ -1,0 +1,2 @@
+// Certificates: weights whose sums agree, and the ceiling that they set to every rewriting of the tables.
+pub mod certify;

@@ -1,0 +1,106 @@
+-- The turns of the loops of load.rt, what its calls say together, and what they ask.
+use mathlib.Core.Path.{_≡_, ap, _∙_}
+use mathlib.Core.List.{List, [], _∷_, _++_}
+use mathlib.Core.Logic.{⊎-elim}
+use Prim.Native.Nat.{ℕ, zero, suc, _+_, _*_, _<_, _≤_}
+use native.Mathlib.Nat.{mul-comm, mul-suc, mul-le-mul-left}
+use native.Mathlib.Numerals.{add-one}
+use native.Mathlib.Omega.{arith}
+use lib.IntN.{ℤ, pos}
+use lib.ListN.{length, set, take, replicate, replicate-append-replicate}
+use lib.Seq.{take-suc-set}
+use Rattle.tables.specs.Sum.{sum}
+use Rattle.tables.specs.Units.{Sound, theScale}
+use Rattle.tables.specs.Block.{blockLength, trainsPlace, scalePlace, pairsPlace, sizePlace, firstPlace, secondPlace, loadedChoicePlace, heldChoicePlace, loadedEntryPlace, heldEntryPlace}
+use Rattle.tables.proofs.Range.{below-suc}
+use Rattle.operations.specs.Fold.{iter}
+use Rattle.tables.specs.Numbers.{Numbers, nth, choiceStart, rowsOf, entryStart, InRange}
+use Rattle.operations.specs.Load.{headLoaded, sizesLoaded, pairsLoaded, runLoaded, choicesLoaded, pairLoaded, entriesLoaded, loadedBlock, SizesIn, PairsIn}
+use Rattle.operations.proofs.Fold.{iter-more}
+
+-- ---- where a load has its costs
+
+-- the cost of choice a of train i, in points
+abbrev pub choiceCost : List ℕ → List ℕ → ℕ → ℕ → ℕ
+choiceCost sizes choices i a = nth choices (choiceStart sizes i + a)
+
+-- the cost of the choices a and c of pair k, in points
+abbrev pub entryCost : List ℕ → List ℕ → List ℕ → List ℕ → ℕ → ℕ → ℕ → ℕ
+entryCost sizes firsts seconds entries k a c = nth entries (entryStart sizes firsts seconds k + rowsOf sizes seconds k * a + c)
+
+-- ---- the turns of the loops
+
+abbrev pub sizeTurn : List ℕ → ℕ → List ℤ → List ℤ
+sizeTurn sizes i d = set d (sizePlace i) (pos (nth sizes i))
+
+abbrev pub pairTurn : List ℕ → List ℕ → ℕ → List ℤ → List ℤ
+pairTurn firsts seconds k d = set (set d (firstPlace k) (pos (nth firsts k))) (secondPlace k) (pos (nth seconds k))
+
+abbrev pub runTurn : ℕ → List ℕ → ℕ → ℕ → ℕ → ℕ → List ℤ → List ℤ
+runTurn s costs start loaded held a d = set (set d (loaded + a) (pos (nth costs (start + a)))) (held + a) (pos (s * nth costs (start + a)))
+
+abbrev pub trainTurn : ℕ → List ℕ → List ℕ → ℕ → List ℤ → List ℤ
+trainTurn s sizes choices i = runLoaded s choices (choiceStart sizes i) (loadedChoicePlace i 0) (heldChoicePlace i 0) (nth sizes i)
+
+abbrev pub rowTurn : ℕ → List ℕ → ℕ → ℕ → ℕ → ℕ → List ℤ → List ℤ
+rowTurn s entries start columns k a = runLoaded s entries (start + columns * a) (loadedEntryPlace k a 0) (heldEntryPlace k a 0) columns
+
+abbrev pub entriesTurn : ℕ → List ℕ → List ℕ → List ℕ → List ℕ → ℕ → List ℤ → List ℤ
+entriesTurn s sizes firsts seconds entries k = pairLoaded s entries (entryStart sizes firsts seconds k) (rowsOf sizes firsts k) (rowsOf sizes seconds k) k
+
+-- ---- a turn of the code, as its calls say it
+
+pub cleared : (b : List ℤ) (p : ℕ) → p < length b → take p b ≡ replicate p (pos 0) → take (p + 1) (set b p (pos 0)) ≡ replicate (p + 1) (pos 0)
+cleared b p h e =
+    ap (λ (n : ℕ). take n (set b p (pos 0))) (add-one p) ∙ take-suc-set b p (pos 0) h ∙ ap (λ (l : List ℤ). l ++ (pos 0 ∷ [])) e
+    ∙ replicate-append-replicate p 1 (pos 0)
+
+pub run-more : (s : ℕ) (costs : List ℕ) (start loaded held a : ℕ) (b : List ℤ) {c d e : List ℤ} {x : ℕ}
+    → c ≡ iter a (runTurn s costs start loaded held) b → d ≡ set c (loaded + a) (pos (nth costs (start + a)))
+    → x ≡ s * nth costs (start + a) → e ≡ set d (held + a) (pos x) → e ≡ iter (a + 1) (runTurn s costs start loaded held) b
+run-more s costs start loaded held a b p q r t = cc (iter-more a (runTurn s costs start loaded held) b)
+
+pub head-by : (n s m size : ℕ) {c d e f : List ℤ} → c ≡ replicate size (pos 0) → d ≡ set c trainsPlace (pos n) → e ≡ set d scalePlace (pos s) → f ≡ set e pairsPlace (pos m)
+    → f ≡ headLoaded n s m (replicate size (pos 0))
+head-by n s m size p q r t = cc
+
+-- a run whose starts are known by equations
+pub run-at : (s : ℕ) (costs : List ℕ) (count : ℕ) {start start′ loaded loaded′ held held′ : ℕ} {b b′ c : List ℤ}
+    → c ≡ runLoaded s costs start loaded held count b → start ≡ start′ → loaded ≡ loaded′ → held ≡ held′ → b ≡ b′ → c ≡ runLoaded s costs start′ loaded′ held′ count b′
+run-at s costs count e p q r t = e ∙ (λ i. runLoaded s costs (p i) (q i) (r i) count (t i))
+
+pub pair-at : (s : ℕ) (entries : List ℕ) (rows columns k : ℕ) {start start′ : ℕ} {b b′ c : List ℤ}
+    → c ≡ pairLoaded s entries start rows columns k b → start ≡ start′ → b ≡ b′ → c ≡ pairLoaded s entries start′ rows columns k b′
+pair-at s entries rows columns k e p q = e ∙ (λ i. pairLoaded s entries (p i) rows columns k (q i))
+
+pub loaded-by : (l : Numbers) {c d e f g : List ℤ}
+    → c ≡ headLoaded (length (l .sizes)) (l .scale) (length (l .firsts)) (replicate blockLength (pos 0))
+    → d ≡ sizesLoaded (l .sizes) c → e ≡ pairsLoaded (l .firsts) (l .seconds) d → f ≡ choicesLoaded (l .scale) (l .sizes) (l .choices) e
+    → g ≡ entriesLoaded (l .scale) (l .sizes) (l .firsts) (l .seconds) (l .entries) f → g ≡ loadedBlock l
+unfolding loadedBlock
+loaded-by l p q r t u = rw (u, t, r, q, p)
+
+-- ---- what the private functions ask
+
+module _ {l : Numbers} (r : InRange l) where
+  pub in-scale : Sound (theScale (l .scale))
+  in-scale = record { low = r .scale .0; high = r .scale .1 }
+
+  pub in-sizes : SizesIn (l .sizes)
+  in-sizes = record { few = r .trains .1; small = λ i h. r .sizes i h .1 }
+
+  pub in-pairs : (n : ℕ) → length (l .sizes) ≤ n → PairsIn n (l .firsts) (l .seconds)
+  in-pairs n h = record { few = r .pairs .0; same = r .pairs .1; first = λ k q. omega (arith, r .below k q); second = λ k q. omega (arith, r .below k q) }
+
+-- ---- where the costs begin
+
+-- a part of a sum
+pub sum-part : (n i : ℕ) (f : ℕ → ℕ) → i < n → sum i f + f i ≤ sum n f
+unfolding sum
+sum-part zero i f h = absurd (omega arith)
+sum-part (suc n) i f h =
+    ⊎-elim (λ (e : i ≡ n). rw e (omega arith)) (λ (q : i < n). omega (arith, sum-part n i f q)) (below-suc i n h)
+
+-- a row of a pair is a part of the pair's costs
+pub row-part : (rows columns a : ℕ) → a < rows → columns * a + columns ≤ rows * columns
+row-part rows columns a h = omega (arith, mul-le-mul-left columns h, mul-comm rows columns, mul-suc columns a)

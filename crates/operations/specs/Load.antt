@@ -1,0 +1,60 @@
+-- Document 01, '01 load': the whole new block. 'T becomes s × H, c0 becomes 0, and every unused place becomes 0.'
+use mathlib.Core.Path.{_≡_}
+use mathlib.Core.List.{List}
+use Prim.Native.Nat.{ℕ, _+_, _*_, _<_, _≤_}
+use lib.IntN.{ℤ, pos}
+use lib.ListN.{length, set, replicate}
+use Rattle.tables.specs.Block.{blockLength, maxTrains, maxChoices, maxPairs, maxCost, trainsPlace, scalePlace, pairsPlace, sizePlace, firstPlace, secondPlace, loadedChoicePlace, heldChoicePlace, loadedEntryPlace, heldEntryPlace}
+use Rattle.tables.specs.Numbers.{Numbers, nth, choiceStart, rowsOf, entryStart}
+use Rattle.operations.specs.Fold.{iter}
+
+-- n, s and m
+abbrev pub headLoaded : ℕ → ℕ → ℕ → List ℤ → List ℤ
+headLoaded n s m b = set (set (set b trainsPlace (pos n)) scalePlace (pos s)) pairsPlace (pos m)
+
+abbrev pub sizesLoaded : List ℕ → List ℤ → List ℤ
+sizesLoaded sizes b = iter (length sizes) (λ i d. set d (sizePlace i) (pos (nth sizes i))) b
+
+abbrev pub pairsLoaded : List ℕ → List ℕ → List ℤ → List ℤ
+pairsLoaded firsts seconds b = iter (length firsts) (λ k d. set (set d (firstPlace k) (pos (nth firsts k))) (secondPlace k) (pos (nth seconds k))) b
+
+-- a run of costs in points, from `start` on: H at `count` places from `loaded` on, and T = s × H at as many from `held` on
+abbrev pub runLoaded : ℕ → List ℕ → ℕ → ℕ → ℕ → ℕ → List ℤ → List ℤ
+runLoaded s costs start loaded held count b = iter count (λ a d. set (set d (loaded + a) (pos (nth costs (start + a)))) (held + a) (pos (s * nth costs (start + a)))) b
+
+-- each train's costs
+abbrev pub choicesLoaded : ℕ → List ℕ → List ℕ → List ℤ → List ℤ
+choicesLoaded s sizes choices b = iter (length sizes) (λ i. runLoaded s choices (choiceStart sizes i) (loadedChoicePlace i 0) (heldChoicePlace i 0) (nth sizes i)) b
+
+-- the rows of pair k, whose costs begin at `start`
+abbrev pub pairLoaded : ℕ → List ℕ → ℕ → ℕ → ℕ → ℕ → List ℤ → List ℤ
+pairLoaded s entries start rows columns k b = iter rows (λ a. runLoaded s entries (start + columns * a) (loadedEntryPlace k a 0) (heldEntryPlace k a 0) columns) b
+
+-- each pair's costs
+abbrev pub entriesLoaded : ℕ → List ℕ → List ℕ → List ℕ → List ℕ → List ℤ → List ℤ
+entriesLoaded s sizes firsts seconds entries b =
+    iter (length firsts) (λ k. pairLoaded s entries (entryStart sizes firsts seconds k) (rowsOf sizes firsts k) (rowsOf sizes seconds k) k) b
+
+-- the block after the load, whatever stood there before
+unfoldable pub loadedBlock : Numbers → List ℤ
+loadedBlock l =
+    entriesLoaded (l .scale) (l .sizes) (l .firsts) (l .seconds) (l .entries)
+    (choicesLoaded (l .scale) (l .sizes) (l .choices)
+    (pairsLoaded (l .firsts) (l .seconds)
+    (sizesLoaded (l .sizes) (headLoaded (length (l .sizes)) (l .scale) (length (l .firsts)) (replicate blockLength (pos 0))))))
+
+-- ---- what the private functions of load.rt ask: each a part of `InRange`
+
+pub record SizesIn (sizes : List ℕ) : Type 0 where
+  pub few : length sizes ≤ maxTrains
+  pub small : (i : ℕ) → i < length sizes → nth sizes i ≤ maxChoices
+
+-- the pairs' trains are below n
+pub record PairsIn (n : ℕ) (firsts seconds : List ℕ) : Type 0 where
+  pub few : length firsts ≤ maxPairs
+  pub same : length seconds ≡ length firsts
+  pub first : (k : ℕ) → k < length firsts → nth firsts k < n
+  pub second : (k : ℕ) → k < length firsts → nth seconds k < n
+
+pub record CostsIn (costs : List ℕ) : Type 0 where
+  pub small : (o : ℕ) → nth costs o ≤ maxCost

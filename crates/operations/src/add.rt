@@ -1,0 +1,31 @@
+// Document 01, '02 add'.
+ghost use mathlib.Core.Path.{_≡_};
+ghost use Prim.Native.Nat.{_<_, _≤_};
+ghost use Rattle.tables.specs.Block.{maxCost, trains, size};
+ghost use Rattle.tables.specs.WellFormed.{Study};
+ghost use Rattle.operations.specs.Add.{addOutcome, addBlock};
+use crate::outcome::Outcome;
+use tables::block;
+use tables::block::Block;
+use tables::units::Parts;
+use tables::units::Points;
+
+// Adds points to choice a of train i: to its loaded cost, and in parts to its held cost.
+pub fn add(block: &mut [i64], i: usize, a: usize, points: Points) -> Outcome
+    requires { ⌜ (Study (now block)) × (i < trains (now block)) × (a < size (now block) i) × (points .0 ≤ maxCost) ⌝ }
+    ensures { λ r. ⌜ r ≡ addOutcome i a (points .0) (now (block .entry)) ⌝ }
+    ensures { λ r. ⌜ now (block .exit) ≡ addBlock i a (points .0) (now (block .entry)) ⌝ }
+{
+    let loaded = block::loaded_choice(block, i, a).0 + points.0;
+    if Block::COST < loaded {
+        return Outcome::CostAbove;
+    }
+    let parts = block::scale(block).parts(points);
+    let held = block::held_choice(block, i, a).0 + parts.0;
+    if Block::PARTS < held {
+        return Outcome::PartsOutside;
+    }
+    block::put_loaded_choice(block, i, a, Points(loaded));
+    block::put_held_choice(block, i, a, Parts(held));
+    Outcome::Done
+}
