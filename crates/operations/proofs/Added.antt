@@ -121,6 +121,16 @@ module _ {b : List ℤ} (s : Study b) (i a p : ℕ) (h : i < trains b) (q : a < 
       let w = places in
       (added-kept (loadedEntryPlace k c d) (λ e. omega arith) (λ e. omega arith), added-kept (heldEntryPlace k c d) (λ e. omega arith) (λ e. omega arith))
 
+  -- H after the addition: the choice costs p points more, and nothing else differs
+  pub add-choice : loadedChoice (added i a p b) i a ≡ loadedChoice b i a + p
+  add-choice = figure-at (added i a p b) (loadedChoicePlace i a) _ (added-two .one)
+
+  pub add-choice-kept : (j c : ℕ) → j < trains b → c < size b j → (j ≡ i → c ≢ a) → loadedChoice (added i a p b) j c ≡ loadedChoice b j c
+  add-choice-kept j c k l n = other-choice j c k l n .0
+
+  pub add-entry-kept : (k c d : ℕ) → loadedEntry (added i a p b) k c d ≡ loadedEntry b k c d
+  add-entry-kept k c d = other-entry k c d .0
+
   added-study : loadedAfter i a p b ≤ maxCost → heldAfter i a p b ≤ maxParts → Study (added i a p b)
   unfolding added
   added-study k l =

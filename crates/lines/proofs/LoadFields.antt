@@ -1,0 +1,101 @@
+-- What is known of a load's fields once they were judged fine.
+use mathlib.Core.Path.{_≡_, refl}
+use mathlib.Core.Bool.{true, _&&_, _||_}
+use mathlib.Core.List.{List}
+use Prim.Native.Nat.{ℕ, _+_, _*_, _-_, _<_, _≤_}
+use native.Mathlib.Nat.{mul-le-mul, one-mul}
+use native.Mathlib.Numerals.{add-one}
+use native.Mathlib.Omega.{arith}
+use lib.Dec.{ltb, leb, eqb}
+use borrow.Author.Tests.{ltb-true, leb-true}
+use Rattle.tables.specs.Block.{maxTrains, maxChoices, maxCost, entriesOfPair}
+use Rattle.tables.specs.Units.{scaleMin, scaleMax}
+use Rattle.tables.specs.WellFormed.{before}
+use Rattle.tables.proofs.Range.{both-true}
+use Rattle.tables.proofs.Sum.{sum-mono, sum-const}
+use Rattle.lines.specs.declared.refusal.Refusal.the-variants.{Fields, Range, Cost, Pair}
+use Rattle.lines.specs.declared.request.Rule.the-variants.{Between}
+use Rattle.lines.specs.declared.request.Verdict.the-variants.{Fine}
+use Rattle.lines.specs.Digits.{bytes}
+use Rattle.lines.specs.Layout.{costWidth, loadTrains, loadScale, sizesAt, loadSize, choiceCount, pairCountAt, entryCount, pairAt, loadFirst, loadSecond}
+use Rattle.lines.specs.Reading.{Sized, then, unless, fieldVerdict, runVerdict, pairOrdered, pairVerdict, headVerdict, sizesVerdict}
+use Rattle.lines.proofs.Judged.{then-fine, unless-fine, field-within, between, run-fine, run-there}
+
+-- ---- n, s and the sizes
+
+pub record Head (l : List ℕ) : Type 0 where
+  pub there : sizesAt ≤ bytes l
+  pub trains : (1 ≤ loadTrains l) × (loadTrains l ≤ maxTrains)
+  pub scale : (scaleMin ≤ loadScale l) × (loadScale l ≤ scaleMax)
+
+pub head-fine : (l : List ℕ) → headVerdict l ≡ Fine → Head l
+unfolding headVerdict
+head-fine l e =
+    let f = then-fine (fieldVerdict l 1 1 (Between 1 maxTrains) Range) (fieldVerdict l 2 2 (Between scaleMin scaleMax) Range) e in
+    let n = field-within l 1 1 1 maxTrains Range (f .0) in
+    let s = field-within l 2 2 scaleMin scaleMax Range (f .1) in
+    record { there = s .0; trains = n .1; scale = s .1 }
+
+pub sized : (l : List ℕ) → headVerdict l ≡ Fine → sizesVerdict l ≡ Fine → Sized l
+sized l e f =
+    let h = head-fine l e in
+    let t = run-there l sizesAt 1 (Between 1 maxChoices) Range (loadTrains l) (h .there) f in
+    record {
+      trains = h .trains .1;
+      there = omega (arith, t);
+      sizes = λ i q. let r = run-fine l sizesAt 1 (Between 1 maxChoices) Range (loadTrains l) f i q in
+          between 1 maxChoices 1 (loadSize l i) (rw one-mul at (r .right));
+    }
+
+module _ {l : List ℕ} (s : Sized l) where
+  pub choice-count-most : choiceCount l ≤ maxTrains * maxChoices
+  choice-count-most =
+      omega (arith, sum-mono (loadTrains l) (loadSize l) (λ i. maxChoices) (λ i h. s .sizes i h .1), sum-const (loadTrains l) maxChoices, s .trains)
+
+  pub entry-count-most : (i j : ℕ) → i < loadTrains l → j < loadTrains l → loadSize l i * loadSize l j ≤ entriesOfPair
+  entry-count-most i j p q = mul-le-mul (s .sizes i p .1) (s .sizes j q .1)
+
+-- ---- the pairs
+
+pub pair-next : (l : List ℕ) (k : ℕ) → pairAt l (k + 1) ≡ pairAt l k + 2 + costWidth * entryCount l (pairAt l k)
+unfolding pairAt
+pair-next l k = rw add-one
+
+pub pair-start : (l : List ℕ) → pairAt l 0 ≡ pairCountAt l + 1
+unfolding pairAt
+pair-start l = refl
+
+-- a pair that was judged fine
+pub record FinePair (l : List ℕ) (k : ℕ) : Type 0 where
+  pub there : pairAt l k + 2 ≤ bytes l
+  pub ordered : pairOrdered l k ≡ true
+  pub costs : runVerdict l (pairAt l k + 2) costWidth (entryCount l (pairAt l k)) (Between 0 maxCost) Cost ≡ Fine
+  pub next : pairAt l (k + 1) ≤ bytes l
+
+pub pair-fine : (l : List ℕ) (k : ℕ) → pairVerdict l k ≡ Fine → FinePair l k
+unfolding pairVerdict
+pair-fine l k e =
+    let costs = runVerdict l (pairAt l k + 2) costWidth (entryCount l (pairAt l k)) (Between 0 maxCost) Cost in
+    let f = then-fine (unless (leb (pairAt l k + 2) (bytes l)) Fields) (then (unless (pairOrdered l k) Pair) costs) e in
+    let g = then-fine (unless (pairOrdered l k) Pair) costs (f .1) in
+    let there : pairAt l k + 2 ≤ bytes l = leb-true _ _ (unless-fine _ Fields (f .0)) in
+    record {
+      there = there;
+      ordered = unless-fine _ Pair (g .0);
+      costs = g .1;
+      next = omega (arith, pair-next l k, run-there l (pairAt l k + 2) costWidth (Between 0 maxCost) Cost (entryCount l (pairAt l k)) there (g .1));
+    }
+
+-- its two trains
+pub record Ordered (l : List ℕ) (k : ℕ) : Type 0 where
+  pub first-below : loadFirst l k < loadSecond l k
+  pub second-below : loadSecond l k < loadTrains l
+  pub after : (eqb k 0 || before (loadFirst l (k - 1)) (loadSecond l (k - 1)) (loadFirst l k) (loadSecond l k)) ≡ true
+
+pub pair-ordered : (l : List ℕ) (k : ℕ) → pairOrdered l k ≡ true → Ordered l k
+unfolding pairOrdered
+pair-ordered l k e =
+    let after = eqb k 0 || before (loadFirst l (k - 1)) (loadSecond l (k - 1)) (loadFirst l k) (loadSecond l k) in
+    let f = both-true (ltb (loadFirst l k) (loadSecond l k)) (ltb (loadSecond l k) (loadTrains l) && after) e in
+    let g = both-true (ltb (loadSecond l k) (loadTrains l)) after (f .1) in
+    record { first-below = ltb-true _ _ (f .0); second-below = ltb-true _ _ (g .0); after = g .1 }

@@ -1,0 +1,43 @@
+-- A field that ends after the line is not wholly there; any other is read, and its number, which the line's digits keep small, is judged.
+use borrow.Author.Needs.{needs}
+use borrow.Author.Tests.{lt-leb, le-leb}
+use native.Mathlib.Omega.{arith}
+use Rattle.lines.specs.Reading.{fieldVerdict}
+use Rattle.lines.proofs.Bytes.{framed-whole}
+use Rattle.lines.proofs.Widths.{field-below}
+use Rattle.lines.proofs.verdict.field_verdict.Statement.{statement}
+use Rattle.lines.proofs.verdict.field_verdict.Tie as tie
+
+add-if1 : tie.Need-add-if1
+add-if1 c = search needs
+
+returns : tie.Need-returns
+unfolding fieldVerdict
+returns c = let s = c .before .before in rw (← s .pre .0 .whole, lt-leb _ _ (c .if1 .taken))
+
+field-requires : tie.Need-field-requires
+field-requires c κs = search needs
+
+obeys-requires : tie.Need-obeys-requires
+obeys-requires c κs =
+    let s = c .before .before .before in
+    let b = field-below (framed-whole (s .args .line .now) (s .pre .0 .digits)) (s .args .at) (s .args .width) (omega arith) in
+    (omega arith, omega (arith, b, c .field .ensures))
+
+returns-2 : tie.Need-returns-2
+unfolding fieldVerdict
+returns-2 c =
+    let e = c .before .before .before in
+    let s = e .before .before in
+    rw (← s .pre .0 .whole, le-leb _ _ (e .if1 .left), ← c .before .before .field .ensures, ← c .before .obeys .ensures, c .if2 .taken)
+
+returns-3 : tie.Need-returns-3
+unfolding fieldVerdict
+returns-3 c =
+    let e = c .before .before .before in
+    let s = e .before .before in
+    rw (← s .pre .0 .whole, le-leb _ _ (e .if1 .left), ← c .before .before .field .ensures, ← c .before .obeys .ensures, c .if2 .left)
+
+pub field-verdict-spec : {M : Type 1} → statement M
+field-verdict-spec =
+    tie.close (tie.spec add-if1 returns field-requires obeys-requires returns-2 returns-3)

@@ -1,0 +1,23 @@
+-- Document 01, 'What is declined': the number of each refusal.
+use Prim.Native.Nat.{ℕ}
+use Rattle.lines.specs.declared.refusal.Refusal.{Refusal}
+use Rattle.lines.specs.declared.refusal.Refusal.the-variants.{Characters, TooLong, NoKind, FreshBlock, Fields, Range, Cost, Pair, Absent, CostAbove, Move, PartsOutside, Whole, Sums, Budget, Malformed, SmallBuffer}
+
+abbrev pub refusalNumber : Refusal → ℕ
+refusalNumber Characters = 1
+refusalNumber TooLong = 2
+refusalNumber NoKind = 3
+refusalNumber FreshBlock = 4
+refusalNumber Fields = 5
+refusalNumber Range = 6
+refusalNumber Cost = 7
+refusalNumber Pair = 8
+refusalNumber Absent = 9
+refusalNumber CostAbove = 10
+refusalNumber Move = 11
+refusalNumber PartsOutside = 12
+refusalNumber Whole = 13
+refusalNumber Sums = 14
+refusalNumber Budget = 15
+refusalNumber Malformed = 16
+refusalNumber SmallBuffer = 17

@@ -1,0 +1,91 @@
+// Document 01, 'What is declined': fields from left to right, each judged as soon as it is read, and bytes left over.
+ghost use mathlib.Core.Path.{_≡_};
+ghost use Prim.Native.Nat.{_+_, _*_, _<_, _≤_, _^_};
+ghost use mathlib.Core.Bool.{_&&_};
+ghost use lib.Dec.{leb};
+ghost use Rattle.lines.specs.Fields.{maxWidth};
+ghost use Rattle.lines.specs.Frames.{Framed};
+ghost use Rattle.lines.specs.Reading.{obeys, fieldVerdict, runVerdict, endVerdict};
+use crate::fields;
+use crate::refusal::Refusal;
+use crate::request::Rule;
+use crate::request::Verdict;
+
+// Whether a field's number is within its rule.
+fn obeys(rule: Rule, width: usize, v: u64) -> bool
+    requires { ⌜ (width ≤ maxWidth) × (v < 256 ^ width) ⌝ }
+    ensures { λ r. ⌜ r ≡ obeys rule width v ⌝ }
+{
+    match rule {
+        Rule::Any => true,
+        Rule::Between(low, high) => between(low, high, v),
+        Rule::Around(limit) => fields::distance(width, v) <= limit,
+    }
+}
+
+// Whether a number is from low to high.
+fn between(low: u64, high: u64, v: u64) -> bool
+    ensures { λ r. ⌜ r ≡ leb low v && leb v high ⌝ }
+{
+    if v < low {
+        return false;
+    }
+    v <= high
+}
+
+// One field: declined where it is not wholly there, else judged by its rule.
+pub fn field_verdict(
+    line: &[u8],
+    bytes: usize,
+    at: usize,
+    width: usize,
+    rule: Rule,
+    refusal: Refusal,
+) -> Verdict
+    requires { ⌜ Framed (now line) bytes × (at < 2 ^ 40) × (width ≤ maxWidth) ⌝ }
+    ensures { λ r. ⌜ r ≡ fieldVerdict (now (line .entry)) at width rule refusal ⌝ }
+{
+    if bytes < at + width {
+        return Verdict::Declined(Refusal::Fields);
+    }
+    if obeys(rule, width, fields::field(line, at, width)) {
+        Verdict::Fine
+    } else {
+        Verdict::Declined(refusal)
+    }
+}
+
+// A run of fields, one after the other.
+pub fn run_verdict(
+    line: &[u8],
+    bytes: usize,
+    at: usize,
+    width: usize,
+    count: usize,
+    rule: Rule,
+    refusal: Refusal,
+) -> Verdict
+    requires { ⌜ Framed (now line) bytes × (at < 2 ^ 32) × (width ≤ maxWidth) × (count < 2 ^ 32) ⌝ }
+    ensures { λ r. ⌜ r ≡ runVerdict (now (line .entry)) at width count rule refusal ⌝ }
+{
+    let mut k = 0;
+    while k < count {
+        let v = field_verdict(line, bytes, at + width * k, width, rule, refusal);
+        if !v.is_fine() {
+            return v;
+        }
+        k += 1;
+    }
+    Verdict::Fine
+}
+
+// Whether a line of so many bytes ends at byte `at`.
+pub fn end_verdict(bytes: usize, at: usize) -> Verdict
+    ensures { λ r. ⌜ r ≡ endVerdict bytes at ⌝ }
+{
+    if at == bytes {
+        Verdict::Fine
+    } else {
+        Verdict::Declined(Refusal::Fields)
+    }
+}
