@@ -1,0 +1,75 @@
+// Document 01, 'Replies', Search: the whole search, and what it answers.
+ghost use mathlib.Core.Path.{_≡_};
+ghost use Prim.Native.Nat.{_≤_, _<_, _^_};
+ghost use Rattle.tables.specs.Units.{Sound, published};
+ghost use Rattle.tables.specs.WellFormed.{Study};
+ghost use Rattle.tables.specs.Ranges.{maxBudget};
+ghost use Rattle.search.specs.Walk.{searched};
+ghost use Rattle.search.specs.Answer.{searchAnswer};
+use crate::links;
+use crate::steps;
+use crate::steps::Walk;
+use crate::walk;
+use tables::block;
+use tables::units::Parts;
+use tables::units::Points;
+use tables::units::Scale;
+
+// What a search answers: whether the walk ended or was spent, its tries, and the best plan where one is known, with its total and its cost.
+pub struct Found {
+    pub ended: bool,
+    pub count: u64,
+    pub known: bool,
+    pub total: Parts,
+    pub cost: Points,
+    pub plan: [u8; 24],
+}
+
+// A total in points, rounded up.
+fn cost_of(s: Scale, total: Parts) -> Points
+    requires { ⌜ (Sound s) × (total .0 < 2 ^ 63) ⌝ }
+    ensures { λ r. ⌜ r ≡ published s total ⌝ }
+{
+    s.bound(total)
+}
+
+// The walk from nothing tried, with its index.
+fn walked(b: &[i64], budget: u64) -> Walk
+    requires { ⌜ (Study (now b)) × (budget ≤ maxBudget) ⌝ }
+    ensures { λ r. ⌜ r ≡ searched (now (b .entry)) budget ⌝ }
+{
+    let mut heads = [0usize; 24];
+    let mut nexts = [0usize; 48];
+    links::fill_heads(b, &mut heads);
+    links::fill_nexts(b, &mut nexts);
+    walk::open_train(
+        b,
+        &heads,
+        &nexts,
+        budget,
+        0,
+        0,
+        block::constant(b),
+        [0u8; 24],
+        steps::start(),
+    )
+}
+
+// The best plan that the budget lets the walk find.
+pub fn search(block: &[i64], budget: u64) -> Found
+    requires { ⌜ (Study (now block)) × (budget ≤ maxBudget) ⌝ }
+    ensures { λ r. ⌜ r ≡ searchAnswer (now (block .entry)) budget ⌝ }
+{
+    let w = walked(block, budget);
+    let total = w.best;
+    let cost = cost_of(block::scale(block), total);
+    let plan = w.plan;
+    Found {
+        ended: !w.spent,
+        count: w.count,
+        known: w.found,
+        total,
+        cost,
+        plan,
+    }
+}
