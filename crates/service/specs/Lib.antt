@@ -1,0 +1,4 @@
+pub mod Replies
+pub mod Answer
+pub mod Ledger
+pub mod Claims
