@@ -2,9 +2,8 @@
 use mathlib.Core.Path.{_≡_, sym, ap, ap₂, _∙_}
 use mathlib.Core.Bool.{true, false, _&&_}
 use mathlib.Core.List.{List}
-use mathlib.Core.Logic.{⊎-elim}
-use Prim.Native.Nat.{ℕ, zero, suc, _+_, _*_, _<_, _≤_}
-use native.Mathlib.Nat.{add-mul, mul-comm, mul-suc, one-mul, mul-le-mul, mul-le-mul-left, mul-le-mul-right, eq-or-lt-of-le}
+use Prim.Native.Nat.{ℕ, _+_, _*_, _<_, _≤_}
+use native.Mathlib.Nat.{mul-comm, mul-suc, one-mul, mul-le-mul, mul-le-mul-left, mul-le-mul-right}
 use native.Mathlib.Omega.{arith}
 use lib.Dec.{eqb}
 use lib.IntN.{ℤ}
@@ -16,31 +15,12 @@ use Rattle.tables.specs.Range.{all}
 use Rattle.tables.specs.Block.{maxTrains, maxChoices, maxPairs, maxParts, figure, heldChoicePlace, heldEntryPlace, trains, pairs, constant, size, first, second}
 use Rattle.tables.specs.WellFormed.{Study}
 use Rattle.tables.specs.Plans.{shapeOf, heldCosts}
-use Rattle.tables.proofs.Sum.{sum-cong, sum-mono, sum-const, sum-term, sum-more}
+use Rattle.tables.proofs.Sum.{sum-cong, sum-term, sum-more, sum-most, sum-front, sum-weighted}
 use Rattle.tables.proofs.Range.{all-true, all-cong, both-true}
 use Rattle.tables.proofs.Study.{trains-range, pairs-range, constant-range, size-range, first-below-trains, second-below-trains, held-choice-range, held-entry-range}
-use Rattle.certificates.specs.Certify.{trainBalanced, rowBalanced, columnBalanced, pairBalanced, balanced, overChoices, overPairs, weighted, choiceStart, entryStart, weightsOf, WeightsFor, ceiling}
+use Rattle.tables.specs.Runs.{choicesBefore, entriesBefore}
+use Rattle.certificates.specs.Certify.{trainBalanced, rowBalanced, columnBalanced, pairBalanced, balanced, overChoices, overPairs, weighted, weightsOf, WeightsFor, ceiling}
 use Rattle.certificates.specs.Runs.{runSum, Run, runWeighted, Light, runsMatch, Runs, trainsMatch, entries, entriesFrom, pairMatches, pairsMatch, trainWeighted, trainsWeighted, rowWeighted, pairWeighted, pairsWeighted, LightRuns}
-
--- ---- sums
-
--- the front of a sum
-pub sum-front : (m n : ℕ) (f : ℕ → ℕ) → m ≤ n → sum m f ≤ sum n f
-unfolding sum
-sum-front m zero f h = let e : m ≡ 0 = omega arith in rw e (omega arith)
-sum-front m (suc n) f h =
-    ⊎-elim (λ (q : m ≡ suc n). rw q (omega arith)) (λ (q : m < suc n). omega (arith, sum-front m n f (omega arith))) (eq-or-lt-of-le h)
-
--- terms of at most h
-pub sum-most : (n h : ℕ) (f : ℕ → ℕ) → ((i : ℕ) → i < n → f i ≤ h) → sum n f ≤ n * h
-sum-most n h f q = omega (arith, sum-mono n f (λ i. h) q, sum-const n h)
-
--- a weighted sum is at most the sum of the weights times the most that is weighed
-pub sum-weighted : (n h : ℕ) (w f : ℕ → ℕ) → ((i : ℕ) → i < n → f i ≤ h) → sum n (λ i. w i * f i) ≤ sum n w * h
-unfolding sum
-sum-weighted zero h w f q = omega arith
-sum-weighted (suc n) h w f q =
-    rw add-mul (omega (arith, sum-weighted n h w f (λ i l. q i (omega arith)), mul-le-mul-left (w n) (q n (omega arith))))
 
 -- ---- one run
 
@@ -77,10 +57,10 @@ equal e f = eq-eqb _ _ (sym e ∙ f)
 -- ---- where the runs are
 
 module _ (b : List ℤ) where
-  train-end : (i : ℕ) → i < trains b → choiceStart b i + size b i ≤ choiceStart b (trains b)
+  train-end : (i : ℕ) → i < trains b → choicesBefore b i + size b i ≤ choicesBefore b (trains b)
   train-end i h = omega (arith, sum-more i (size b), sum-front (i + 1) (trains b) (size b) (omega arith))
 
-  pair-end : (k : ℕ) → k < pairs b → entriesFrom b k + entries b k ≤ choiceStart b (trains b) + entryStart b (pairs b)
+  pair-end : (k : ℕ) → k < pairs b → entriesFrom b k + entries b k ≤ choicesBefore b (trains b) + entriesBefore b (pairs b)
   pair-end k h = omega (arith, sum-more k (entries b), sum-front (k + 1) (pairs b) (entries b) (omega arith))
 
 -- row a of a table of so many columns ends where the next begins
@@ -91,11 +71,11 @@ module _ {b : List ℤ} {l : List ℕ} (s : Study b) (w : WeightsFor b l) where
   run-of : (from step count : ℕ) → (1 ≤ count) × (count ≤ maxChoices) → ((k : ℕ) → k < count → from + step * k < length l) → Run l from step count
   run-of from step count h q = record { some = h .0; few = h .1; inside = q; small = λ k r. w .small (from + step * k) (q k r) }
 
-  pub train-inside : (i : ℕ) → i < trains b → choiceStart b i + size b i ≤ length l
+  pub train-inside : (i : ℕ) → i < trains b → choicesBefore b i + size b i ≤ length l
   train-inside i h = omega (arith, train-end b i h, w .count)
 
-  pub train-run : (i : ℕ) → i < trains b → Run l (choiceStart b i) 1 (size b i)
-  train-run i h = run-of (choiceStart b i) 1 (size b i) (size-range s i h) (λ k q. omega (arith, train-inside i h))
+  pub train-run : (i : ℕ) → i < trains b → Run l (choicesBefore b i) 1 (size b i)
+  train-run i h = run-of (choicesBefore b i) 1 (size b i) (size-range s i h) (λ k q. omega (arith, train-inside i h))
 
   module _ (k : ℕ) (h : k < pairs b) where
     rows-few : (1 ≤ size b (first b k)) × (size b (first b k) ≤ maxChoices)
@@ -110,14 +90,14 @@ module _ {b : List ℤ} {l : List ℕ} (s : Study b) (w : WeightsFor b l) where
     pub row-inside : (a : ℕ) → a < size b (first b k) → entriesFrom b k + size b (second b k) * a + size b (second b k) ≤ length l
     row-inside a q = omega (arith, pair-inside, row-end (size b (first b k)) (size b (second b k)) a q)
 
-    pub rows-runs : Runs l (entriesFrom b k) (size b (second b k)) 1 (size b (second b k)) (choiceStart b (first b k)) (size b (first b k))
+    pub rows-runs : Runs l (entriesFrom b k) (size b (second b k)) 1 (size b (second b k)) (choicesBefore b (first b k)) (size b (first b k))
     rows-runs =
         record {
           each = λ a q. run-of _ 1 (size b (second b k)) columns-few (λ c r. omega (arith, row-inside a q));
           inside = train-inside (first b k) (first-below-trains s k h);
         }
 
-    pub columns-runs : Runs l (entriesFrom b k) 1 (size b (second b k)) (size b (first b k)) (choiceStart b (second b k)) (size b (second b k))
+    pub columns-runs : Runs l (entriesFrom b k) 1 (size b (second b k)) (size b (first b k)) (choicesBefore b (second b k)) (size b (second b k))
     columns-runs =
         record {
           each = λ c q. run-of _ (size b (second b k)) (size b (first b k)) rows-few (λ a r. omega (arith, row-inside a r));
@@ -131,7 +111,7 @@ module _ {b : List ℤ} {l : List ℕ} (s : Study b) (t : LightRuns b l) where
     train-costs : (a : ℕ) → a < size b i → figure b (heldChoicePlace i 0 + a) ≤ maxParts
     train-costs a q = let e : heldChoicePlace i 0 + a ≡ heldChoicePlace i a = omega arith in rw e (held-choice-range s i a h q .high)
 
-    pub train-light : WeightsFor b l → Light l (choiceStart b i) b (heldChoicePlace i 0) (size b i)
+    pub train-light : WeightsFor b l → Light l (choicesBefore b i) b (heldChoicePlace i 0) (size b i)
     train-light w =
         record {
           inside = train-inside s w i h;
@@ -175,15 +155,15 @@ module _ {b : List ℤ} {l : List ℕ} (s : Study b) (t : LightRuns b l) where
 module _ (b : List ℤ) (whole : ℕ) (l : List ℕ) where
   trains-same : all (trains b) (trainBalanced (shapeOf b) (weightsOf b whole l)) ≡ trainsMatch b l whole
   unfolding trainBalanced trainsMatch shapeOf
-  trains-same = all-cong (trains b) _ _ (λ i h. ap (λ (v : ℕ). eqb v whole) (sym (next-to l (choiceStart b i) (size b i))))
+  trains-same = all-cong (trains b) _ _ (λ i h. ap (λ (v : ℕ). eqb v whole) (sym (next-to l (choicesBefore b i) (size b i))))
 
   pair-same : (k : ℕ) → pairBalanced (shapeOf b) (weightsOf b whole l) k ≡ pairMatches b l k
   unfolding pairBalanced rowBalanced columnBalanced pairMatches shapeOf
   pair-same k =
       ap₂ _&&_
-      (all-cong (size b (first b k)) _ _ (λ a h. ap (λ (v : ℕ). eqb v (getD l (choiceStart b (first b k) + a) 0))
+      (all-cong (size b (first b k)) _ _ (λ a h. ap (λ (v : ℕ). eqb v (getD l (choicesBefore b (first b k) + a) 0))
       (sum-cong (size b (second b k)) _ _ (λ c q. ap (λ (p : ℕ). getD l p 0) (omega arith)))))
-      (all-cong (size b (second b k)) _ _ (λ c h. ap (λ (v : ℕ). eqb v (getD l (choiceStart b (second b k) + c) 0))
+      (all-cong (size b (second b k)) _ _ (λ c h. ap (λ (v : ℕ). eqb v (getD l (choicesBefore b (second b k) + c) 0))
       (sum-cong (size b (first b k)) _ _ (λ a q. ap (λ (p : ℕ). getD l p 0) (omega arith)))))
 
   pub balanced-runs : balanced (shapeOf b) (weightsOf b whole l) ≡ trainsMatch b l whole && pairsMatch b l
@@ -194,12 +174,12 @@ module _ (b : List ℤ) (whole : ℕ) (l : List ℕ) where
   unfolding weighted overChoices overPairs shapeOf heldCosts trainsWeighted trainWeighted pairsWeighted pairWeighted rowWeighted
   weighted-runs =
       ap₂ (λ (x y : ℕ). whole * constant b + x + y)
-      (sum-cong (trains b) _ _ (λ i h. sum-cong (size b i) _ _ (λ a q. ap (λ (p : ℕ). getD l (choiceStart b i + a) 0 * figure b p) (omega arith))))
+      (sum-cong (trains b) _ _ (λ i h. sum-cong (size b i) _ _ (λ a q. ap (λ (p : ℕ). getD l (choicesBefore b i + a) 0 * figure b p) (omega arith))))
       (sum-cong (pairs b) _ _ (λ k h. sum-cong (size b (first b k)) _ _ (λ a q. sum-cong (size b (second b k)) _ _ (λ c r. ap₂ (λ (o p : ℕ). getD l o 0 * figure b p) (omega arith) (omega arith)))))
 
 -- a pair's runs, by the numbers that the code reads
 pub pair-by-runs : (b : List ℤ) (l : List ℕ) (k : ℕ) {i j rows columns from x y : ℕ} → i ≡ first b k → j ≡ second b k → rows ≡ size b i → columns ≡ size b j
-    → from ≡ entriesFrom b k → x ≡ choiceStart b i → y ≡ choiceStart b j
+    → from ≡ entriesFrom b k → x ≡ choicesBefore b i → y ≡ choicesBefore b j
     → pairMatches b l k ≡ runsMatch l from columns 1 columns x rows && runsMatch l from 1 columns rows y columns
 unfolding pairMatches
 pair-by-runs b l k p q r t f u v = rw (r, t, f, u, v, p, q)
@@ -209,18 +189,18 @@ pub light-runs : {b : List ℤ} {l : List ℕ} {whole : ℕ} → Study b → who
 unfolding trainsMatch pairsMatch pairMatches
 light-runs {b} {l} {whole} s h e f = record { trains = λ i q. omega (arith, train i q); rows = row }
   where
-    train : (i : ℕ) → i < trains b → runSum l (choiceStart b i) 1 (size b i) ≡ whole
+    train : (i : ℕ) → i < trains b → runSum l (choicesBefore b i) 1 (size b i) ≡ whole
     train i q = eqb-true _ _ (all-true _ (trains b) e i q)
 
     row : (k a : ℕ) → k < pairs b → a < size b (first b k) → runSum l (entriesFrom b k + size b (second b k) * a) 1 (size b (second b k)) ≤ maxWhole
     row k a q r =
         let i = first b k in
         let rows = both-true _ _ (all-true (pairMatches b l) (pairs b) f k q) .0 in
-        let m : runSum l (entriesFrom b k + size b (second b k) * a) 1 (size b (second b k)) ≡ getD l (choiceStart b i + a) 0 = eqb-true _ _ (all-true _ (size b i) rows a r) in
+        let m : runSum l (entriesFrom b k + size b (second b k) * a) 1 (size b (second b k)) ≡ getD l (choicesBefore b i + a) 0 = eqb-true _ _ (all-true _ (size b i) rows a r) in
         omega (
           arith,
-          sum-term (size b i) a (λ c. getD l (choiceStart b i + c) 0) r,
-          next-to l (choiceStart b i) (size b i),
+          sum-term (size b i) a (λ c. getD l (choicesBefore b i + c) 0) r,
+          next-to l (choicesBefore b i) (size b i),
           train i (first-below-trains s k q),
         )
 

@@ -9,6 +9,7 @@ use lib.ListN.{length, getD}
 use Rattle.tables.specs.Sum.{sum}
 use Rattle.tables.specs.Range.{all}
 use Rattle.tables.specs.Block.{trains, pairs, constant, size, first, second}
+use Rattle.tables.specs.Runs.{choicesBefore, entriesBefore}
 use Rattle.tables.specs.Plans.{Shape, Costs, shapeOf, heldCosts}
 use Rattle.certificates.specs.declared.certify.Certificate.{Certificate}
 use Rattle.certificates.specs.declared.certify.Certificate.the-variants.{Unbalanced, Balanced}
@@ -54,23 +55,17 @@ unfoldable pub weighted : Shape → Weights → Costs → ℕ
 weighted s w t = w .whole * t .constant + overChoices s w (t .choice) + overPairs s w (t .pair)
 
 -- the weights of a line, 'ordered as in a load': all w, then all z
-abbrev pub choiceStart : List ℤ → ℕ → ℕ
-choiceStart b i = sum i (size b)
-
-abbrev pub entryStart : List ℤ → ℕ → ℕ
-entryStart b k = sum k (λ l. size b (first b l) * size b (second b l))
-
 abbrev pub weightsOf : List ℤ → ℕ → List ℕ → Weights
 weightsOf b whole l =
     record {
       whole = whole;
-      choice = λ i a. getD l (choiceStart b i + a) 0;
-      pair = λ k a c. getD l (choiceStart b (trains b) + (entryStart b k + (size b (second b k) * a + c))) 0;
+      choice = λ i a. getD l (choicesBefore b i + a) 0;
+      pair = λ k a c. getD l (choicesBefore b (trains b) + (entriesBefore b k + (size b (second b k) * a + c))) 0;
     }
 
 -- a line's weights: one for each choice and for each pair's two choices, none judged but by its 3 bytes
 pub record WeightsFor (b : List ℤ) (l : List ℕ) : Type 0 where
-  pub count : length l ≡ choiceStart b (trains b) + entryStart b (pairs b)
+  pub count : length l ≡ choicesBefore b (trains b) + entriesBefore b (pairs b)
   pub small : (p : ℕ) → p < length l → getD l p 0 < weightsBelow
 
 -- E of a line's weights

@@ -10,7 +10,8 @@ use Rattle.tables.specs.Sum.{sum}
 use Rattle.tables.specs.Ranges.{maxWhole}
 use Rattle.tables.specs.Range.{all}
 use Rattle.tables.specs.Block.{maxChoices, maxParts, heldChoicePlace, heldEntryPlace, figure, trains, pairs, size, first, second}
-use Rattle.certificates.specs.Certify.{weightsBelow, choiceStart, entryStart}
+use Rattle.tables.specs.Runs.{choicesBefore, entriesBefore}
+use Rattle.certificates.specs.Certify.{weightsBelow}
 
 -- ---- one run
 
@@ -51,7 +52,7 @@ pub record Runs (l : List ℕ) (from apart step count choices runs : ℕ) : Type
 
 -- the weights of each train sum to W
 abbrev pub trainMatches : List ℤ → List ℕ → ℕ → ℕ → Bool
-trainMatches b l whole i = eqb (runSum l (choiceStart b i) 1 (size b i)) whole
+trainMatches b l whole i = eqb (runSum l (choicesBefore b i) 1 (size b i)) whole
 
 unfoldable pub trainsMatch : List ℤ → List ℕ → ℕ → Bool
 trainsMatch b l whole = all (trains b) (trainMatches b l whole)
@@ -61,7 +62,7 @@ abbrev pub entries : List ℤ → ℕ → ℕ
 entries b k = size b (first b k) * size b (second b k)
 
 abbrev pub entriesFrom : List ℤ → ℕ → ℕ
-entriesFrom b k = choiceStart b (trains b) + entryStart b k
+entriesFrom b k = choicesBefore b (trains b) + entriesBefore b k
 
 pub record PairFrom (b : List ℤ) (k from : ℕ) : Type 0 where
   pub there : k < pairs b
@@ -70,15 +71,15 @@ pub record PairFrom (b : List ℤ) (k from : ℕ) : Type 0 where
 -- the rows of pair k sum to the weights of its first train, its columns to those of its second
 unfoldable pub pairMatches : List ℤ → List ℕ → ℕ → Bool
 pairMatches b l k =
-    runsMatch l (entriesFrom b k) (size b (second b k)) 1 (size b (second b k)) (choiceStart b (first b k)) (size b (first b k))
-    && runsMatch l (entriesFrom b k) 1 (size b (second b k)) (size b (first b k)) (choiceStart b (second b k)) (size b (second b k))
+    runsMatch l (entriesFrom b k) (size b (second b k)) 1 (size b (second b k)) (choicesBefore b (first b k)) (size b (first b k))
+    && runsMatch l (entriesFrom b k) 1 (size b (second b k)) (size b (first b k)) (choicesBefore b (second b k)) (size b (second b k))
 
 unfoldable pub pairsMatch : List ℤ → List ℕ → Bool
 pairsMatch b l = all (pairs b) (pairMatches b l)
 
 -- E's parts: the choices of train i, row a of pair k, and all of them
 unfoldable pub trainWeighted : List ℤ → List ℕ → ℕ → ℕ
-trainWeighted b l i = runWeighted l (choiceStart b i) b (heldChoicePlace i 0) (size b i)
+trainWeighted b l i = runWeighted l (choicesBefore b i) b (heldChoicePlace i 0) (size b i)
 
 unfoldable pub trainsWeighted : List ℤ → List ℕ → ℕ
 trainsWeighted b l = sum (trains b) (trainWeighted b l)
@@ -94,5 +95,5 @@ pairsWeighted b l = sum (pairs b) (pairWeighted b l)
 
 -- the runs of a certificate whose sums have been judged
 pub record LightRuns (b : List ℤ) (l : List ℕ) : Type 0 where
-  pub trains : (i : ℕ) → i < trains b → runSum l (choiceStart b i) 1 (size b i) ≤ maxWhole
+  pub trains : (i : ℕ) → i < trains b → runSum l (choicesBefore b i) 1 (size b i) ≤ maxWhole
   pub rows : (k a : ℕ) → k < pairs b → a < size b (first b k) → runSum l (entriesFrom b k + size b (second b k) * a) 1 (size b (second b k)) ≤ maxWhole

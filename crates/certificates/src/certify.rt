@@ -4,7 +4,8 @@ ghost use Prim.Native.Nat.{_<_, _≤_};
 ghost use Rattle.tables.specs.Block.{trains, pairs};
 ghost use Rattle.tables.specs.Ranges.{maxWhole};
 ghost use Rattle.tables.specs.WellFormed.{Study};
-ghost use Rattle.certificates.specs.Certify.{WeightsFor, choiceStart, weightsOf, certificate};
+ghost use Rattle.tables.specs.Runs.{choicesBefore};
+ghost use Rattle.certificates.specs.Certify.{WeightsFor, weightsOf, certificate};
 ghost use Rattle.certificates.specs.Runs.{runSum, Run, runWeighted, Light, runsMatch, Runs, trainsMatch, entries, PairFrom, pairMatches, pairsMatch, trainsWeighted, pairWeighted, pairsWeighted, LightRuns};
 use tables::block;
 use tables::block::Block;
@@ -126,7 +127,7 @@ fn trains_match(b: &[i64], weights: &[u64], whole: u64) -> bool
 fn choice_start(b: &[i64], i: usize) -> usize
     requires { ⌜ Study (now b) ⌝ }
     requires { ⌜ i ≤ trains (now b) ⌝ }
-    ensures { λ r. ⌜ r ≡ choiceStart (now (b .entry)) i ⌝ }
+    ensures { λ r. ⌜ r ≡ choicesBefore (now (b .entry)) i ⌝ }
 {
     let mut start = 0;
     let mut k = 0;

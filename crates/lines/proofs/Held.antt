@@ -8,28 +8,24 @@ use Rattle.tables.specs.Block.{maxTrains, maxChoices, maxPairs, entriesOfPair, 
 use Rattle.tables.specs.Sum.{sum}
 use Rattle.tables.specs.WellFormed.{Study}
 use Rattle.tables.proofs.Study.{trains-range, pairs-range, size-range, first-below-trains, second-below-trains}
-use Rattle.tables.proofs.Sum.{sum-mono, sum-const}
+use Rattle.tables.proofs.Sum.{sum-most}
 use Rattle.lines.specs.Reading.{heldChoices, heldEntries, moveCount}
-
--- a sum of terms that have a limit
-sum-most : (n : ℕ) (f : ℕ → ℕ) (high : ℕ) → ((i : ℕ) → i < n → f i ≤ high) → sum n f ≤ n * high
-sum-most n f high h = omega (arith, sum-mono n f (λ i. high) h, sum-const n high)
 
 module _ {b : List ℤ} (s : Study b) where
   -- a loop over the trains, or over the pairs, so far
   pub choices-most : (i : ℕ) → i ≤ trains b → sum i (size b) ≤ i * maxChoices
-  choices-most i h = sum-most i (size b) maxChoices (λ j q. size-range s j (omega arith) .1)
+  choices-most i h = sum-most i maxChoices (size b) (λ j q. size-range s j (omega arith) .1)
 
   -- the two sizes of a pair
   pub sizes-most : (k : ℕ) → k < pairs b → (size b (first b k) ≤ maxChoices) × (size b (second b k) ≤ maxChoices)
   sizes-most k h = (size-range s (first b k) (first-below-trains s k h) .1, size-range s (second b k) (second-below-trains s k h) .1)
 
   pub moves-most : (k : ℕ) → k ≤ pairs b → sum k (λ j. size b (first b j) + size b (second b j)) ≤ k * (2 * maxChoices)
-  moves-most k h = sum-most k (λ j. size b (first b j) + size b (second b j)) (2 * maxChoices) (λ j q. omega (arith, sizes-most j (omega arith)))
+  moves-most k h = sum-most k (2 * maxChoices) (λ j. size b (first b j) + size b (second b j)) (λ j q. omega (arith, sizes-most j (omega arith)))
 
   pub entries-most : (k : ℕ) → k ≤ pairs b → sum k (λ j. size b (first b j) * size b (second b j)) ≤ k * entriesOfPair
   entries-most k h =
-      sum-most k (λ j. size b (first b j) * size b (second b j)) entriesOfPair
+      sum-most k entriesOfPair (λ j. size b (first b j) * size b (second b j))
       (λ j q. mul-le-mul (sizes-most j (omega arith) .0) (sizes-most j (omega arith) .1))
 
   -- all of them

@@ -4,9 +4,9 @@ use mathlib.Core.List.{List}
 use Prim.Native.Nat.{ℕ, zero, suc, _+_, _*_, _-_, _<_, _≤_}
 use lib.Dec.{leb, ltb, eqb}
 use lib.IntN.{ℤ, natAbs}
-use Rattle.tables.specs.Sum.{sum}
 use Rattle.tables.specs.Units.{scaleMin, scaleMax}
-use Rattle.tables.specs.Block.{maxTrains, maxChoices, maxPairs, maxCost, trains, pairs, size, first, second}
+use Rattle.tables.specs.Block.{maxTrains, maxChoices, maxPairs, maxCost, trains, pairs, size}
+use Rattle.tables.specs.Runs.{choicesBefore, entriesBefore, movesBefore}
 use Rattle.tables.specs.Ranges.{maxMove, maxWhole, maxBudget}
 use Rattle.tables.specs.WellFormed.{before, fresh}
 use Rattle.lines.specs.declared.refusal.Refusal.{Refusal}
@@ -131,13 +131,13 @@ addRequest l = Add (record { train = addTrain l; choice = addChoice l; points = 
 
 -- how many choices the block's trains have, how many entries its pairs, and how many moves a shift has for its pairs
 abbrev pub heldChoices : List ℤ → ℕ
-heldChoices b = sum (trains b) (size b)
+heldChoices b = choicesBefore b (trains b)
 
 abbrev pub heldEntries : List ℤ → ℕ
-heldEntries b = sum (pairs b) (λ k. size b (first b k) * size b (second b k))
+heldEntries b = entriesBefore b (pairs b)
 
 abbrev pub moveCount : List ℤ → ℕ
-moveCount b = sum (pairs b) (λ k. size b (first b k) + size b (second b k))
+moveCount b = movesBefore b (pairs b)
 
 -- how many weights a certificate has
 abbrev pub weightCount : List ℤ → ℕ

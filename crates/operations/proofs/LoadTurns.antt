@@ -1,18 +1,15 @@
 -- The turns of the loops of load.rt, what its calls say together, and what they ask.
 use mathlib.Core.Path.{_≡_, ap, _∙_}
 use mathlib.Core.List.{List, [], _∷_, _++_}
-use mathlib.Core.Logic.{⊎-elim}
-use Prim.Native.Nat.{ℕ, zero, suc, _+_, _*_, _<_, _≤_}
+use Prim.Native.Nat.{ℕ, _+_, _*_, _<_, _≤_}
 use native.Mathlib.Nat.{mul-comm, mul-suc, mul-le-mul-left}
 use native.Mathlib.Numerals.{add-one}
 use native.Mathlib.Omega.{arith}
 use lib.IntN.{ℤ, pos}
 use lib.ListN.{length, set, take, replicate, replicate-append-replicate}
 use lib.Seq.{take-suc-set}
-use Rattle.tables.specs.Sum.{sum}
 use Rattle.tables.specs.Units.{Sound, theScale}
 use Rattle.tables.specs.Block.{blockLength, trainsPlace, scalePlace, pairsPlace, sizePlace, firstPlace, secondPlace, loadedChoicePlace, heldChoicePlace, loadedEntryPlace, heldEntryPlace}
-use Rattle.tables.proofs.Range.{below-suc}
 use Rattle.operations.specs.Fold.{iter}
 use Rattle.tables.specs.Numbers.{Numbers, nth, choiceStart, rowsOf, entryStart, InRange}
 use Rattle.operations.specs.Load.{headLoaded, sizesLoaded, pairsLoaded, runLoaded, choicesLoaded, pairLoaded, entriesLoaded, loadedBlock, SizesIn, PairsIn}
@@ -93,13 +90,6 @@ module _ {l : Numbers} (r : InRange l) where
   in-pairs n h = record { few = r .pairs .0; same = r .pairs .1; first = λ k q. omega (arith, r .below k q); second = λ k q. omega (arith, r .below k q) }
 
 -- ---- where the costs begin
-
--- a part of a sum
-pub sum-part : (n i : ℕ) (f : ℕ → ℕ) → i < n → sum i f + f i ≤ sum n f
-unfolding sum
-sum-part zero i f h = absurd (omega arith)
-sum-part (suc n) i f h =
-    ⊎-elim (λ (e : i ≡ n). rw e (omega arith)) (λ (q : i < n). omega (arith, sum-part n i f q)) (below-suc i n h)
 
 -- a row of a pair is a part of the pair's costs
 pub row-part : (rows columns a : ℕ) → a < rows → columns * a + columns ≤ rows * columns

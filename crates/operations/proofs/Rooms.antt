@@ -14,7 +14,8 @@ use Rattle.tables.proofs.Study.{SameShape, same-pairs}
 use Rattle.operations.specs.Fold.{iter}
 use Rattle.operations.specs.Moves.{Room, Shapely, projectRow, projectColumn, projectUnary}
 use Rattle.tables.specs.Ranges.{maxMove}
-use Rattle.operations.specs.Shift.{moveStart, lifted, rowsShifted, columnsShifted, pairShifted, pairsShifted, shifted}
+use Rattle.tables.specs.Runs.{movesBefore}
+use Rattle.operations.specs.Shift.{lifted, rowsShifted, columnsShifted, pairShifted, pairsShifted, shifted}
 use Rattle.operations.proofs.Runs.{room-more, move-room}
 use Rattle.operations.proofs.Shape.{same-rows, same-columns, project-fair, fair-run, Asked, Moved, none, move, moved-shape, moved-more, rows-moved, columns-moved, trains-moved, pairs-moved}
 
@@ -74,7 +75,7 @@ unfolding pairShifted
 pair-by moves start k b p q r = r ∙ rw (p, q)
 
 -- the moves of the pairs so far are moves of all
-pub start-within : (b : List ℤ) (k m : ℕ) → k < m → moveStart b k + (size b (first b k) + size b (second b k)) ≤ moveStart b m
+pub start-within : (b : List ℤ) (k m : ℕ) → k < m → movesBefore b k + (size b (first b k) + size b (second b k)) ≤ movesBefore b m
 start-within b k m h = let e : m ≡ (k + 1) + (m - (k + 1)) = omega arith in rw e (omega (arith, sum-more k (λ l. size b (first b l) + size b (second b l)), front (k + 1) (m - (k + 1))))
   where
     front : (n d : ℕ) → sum n (λ l. size b (first b l) + size b (second b l)) ≤ sum (n + d) (λ l. size b (first b l) + size b (second b l))
@@ -83,7 +84,7 @@ start-within b k m h = let e : m ≡ (k + 1) + (m - (k + 1)) = omega arith in rw
         let e : n + suc d ≡ (n + d) + 1 = omega arith in
         rw e (omega (arith, front n d, sum-more (n + d) (λ l. size b (first b l) + size b (second b l))))
 
-pub same-start : {b c : List ℤ} → SameShape b c → Shapely b → (k : ℕ) → k ≤ maxPairs → moveStart c k ≡ moveStart b k
+pub same-start : {b c : List ℤ} → SameShape b c → Shapely b → (k : ℕ) → k ≤ maxPairs → movesBefore c k ≡ movesBefore b k
 same-start {b} {c} e s k h =
     sum-cong k (λ l. size c (first c l) + size c (second c l)) (λ l. size b (first b l) + size b (second b l))
     (λ l q. omega (arith, same-rows e s l (omega arith), same-columns e s l (omega arith)))
@@ -106,4 +107,4 @@ shift-moved {R} {b} s lifts moves q r =
     let w = lifts-moved s lifts q (trains b) 0 b (omega arith) none in
     let e = same-pairs (moved-shape s w) in
     moved-more (omega (arith, s .trains, s .pairs))
-    (pairs-shifted s moves r (moveStart (lifted lifts b)) (pairs (lifted lifts b)) (0 + trains b) (lifted lifts b) (omega arith) w)
+    (pairs-shifted s moves r (movesBefore (lifted lifts b)) (pairs (lifted lifts b)) (0 + trains b) (lifted lifts b) (omega arith) w)

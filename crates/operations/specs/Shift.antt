@@ -3,7 +3,7 @@ use mathlib.Core.List.{List}
 use Prim.Native.Nat.{ℕ, _+_, _≤_}
 use lib.IntN.{ℤ}
 use lib.Signed.{mag}
-use Rattle.tables.specs.Sum.{sum}
+use Rattle.tables.specs.Runs.{movesBefore}
 use Rattle.tables.specs.Ranges.{maxMove}
 use Rattle.tables.specs.Block.{at, trains, pairs, size, first, second}
 use Rattle.operations.specs.declared.outcome.Outcome.{Outcome}
@@ -14,10 +14,6 @@ use Rattle.operations.specs.Moves.{projectRow, projectColumn, projectUna
 -- 11, 'lift outside 0 to 10^12, move outside ±10^12', is judged before: none is further from 0
 pub record SmallMoves (l : List ℤ) : Type 0 where
   pub small : (i : ℕ) → mag (at l i) ≤ maxMove
-
--- 'for each pair the moves p_i,a by a, then p_j,b by b': where those of pair k begin
-abbrev pub moveStart : List ℤ → ℕ → ℕ
-moveStart b k = sum k (λ l. size b (first b l) + size b (second b l))
 
 -- 'lifts u_i by train': c0 grows by u_i, and c_i(a) falls by u_i
 abbrev pub lifted : List ℤ → List ℤ → List ℤ
@@ -36,7 +32,7 @@ pairShifted moves start k b = columnsShifted moves (start + size b (first b k)) 
 
 -- all pairs of the block, whose moves begin where the shape of b says
 abbrev pub pairsShifted : List ℤ → List ℤ → List ℤ
-pairsShifted moves b = iter (pairs b) (λ k. pairShifted moves (moveStart b k) k) b
+pairsShifted moves b = iter (pairs b) (λ k. pairShifted moves (movesBefore b k) k) b
 
 -- where a shift ends
 unfoldable pub shifted : List ℤ → List ℤ → List ℤ → List ℤ

@@ -5,7 +5,8 @@ ghost use lib.ListN.{length};
 ghost use Rattle.tables.specs.Block.{maxParts, trains, pairs, size, first, second};
 ghost use Rattle.tables.specs.WellFormed.{Study};
 ghost use Rattle.operations.specs.Moves.{Room, Shapely};
-ghost use Rattle.operations.specs.Shift.{SmallMoves, moveStart, lifted, rowsShifted, columnsShifted, pairShifted, pairsShifted, shiftOutcome, shiftBlock};
+ghost use Rattle.tables.specs.Runs.{movesBefore};
+ghost use Rattle.operations.specs.Shift.{SmallMoves, lifted, rowsShifted, columnsShifted, pairShifted, pairsShifted, shiftOutcome, shiftBlock};
 use crate::moves;
 use crate::outcome;
 use crate::outcome::Outcome;
@@ -14,7 +15,7 @@ use tables::block::Block;
 
 // Shifts the held costs by the lifts, one for each train, and the moves: of each pair those of its first train, then those of its second.
 pub fn shift(block: &mut [i64], lifts: &[i64], moves: &[i64]) -> Outcome
-    requires { ⌜ (Study (now block)) × (length (now lifts) ≡ trains (now block)) × (length (now moves) ≡ moveStart (now block) (pairs (now block))) ⌝ }
+    requires { ⌜ (Study (now block)) × (length (now lifts) ≡ trains (now block)) × (length (now moves) ≡ movesBefore (now block) (pairs (now block))) ⌝ }
     requires { ⌜ (SmallMoves (now lifts)) × (SmallMoves (now moves)) ⌝ }
     ensures { λ r. ⌜ r ≡ shiftOutcome (now (lifts .entry)) (now (moves .entry)) (now (block .entry)) ⌝ }
     ensures { λ r. ⌜ now (block .exit) ≡ shiftBlock (now (lifts .entry)) (now (moves .entry)) (now (block .entry)) ⌝ }
@@ -41,7 +42,7 @@ fn lift_trains(b: &mut [i64], lifts: &[i64])
 
 // Makes the moves of every pair.
 fn shift_pairs(b: &mut [i64], moves: &[i64])
-    requires { ⌜ (Shapely (now b)) × (Room (now b) (2 ^ 48)) × (length (now moves) ≡ moveStart (now b) (pairs (now b))) × (SmallMoves (now moves)) ⌝ }
+    requires { ⌜ (Shapely (now b)) × (Room (now b) (2 ^ 48)) × (length (now moves) ≡ movesBefore (now b) (pairs (now b))) × (SmallMoves (now moves)) ⌝ }
     ensures { λ _. ⌜ now (b .exit) ≡ pairsShifted (now (moves .entry)) (now (b .entry)) ⌝ }
 {
     let m = block::pairs(b);

@@ -15,14 +15,10 @@ use Rattle.tables.specs.Sum.{sum}
 use Rattle.tables.specs.Block.{maxPairs, maxParts, trains, pairs, constant, size, first, second, heldChoice, heldEntry}
 use Rattle.tables.specs.WellFormed.{Study}
 use Rattle.tables.specs.Plans.{choiceTotal, pairTotal, total, shapeOf, heldCosts, heldTotal}
-use Rattle.tables.proofs.Sum.{sum-none, sum-more, sum-cong, sum-mono, sum-add, sum-const, sum-swap, sum-pick}
+use Rattle.tables.proofs.Sum.{sum-none, sum-more, sum-cong, sum-most, sum-add, sum-swap, sum-pick}
 use Rattle.tables.proofs.Study.{trains-range, pairs-range, constant-range, held-choice-range, held-entry-range, first-below-second, second-below-trains}
 use Rattle.search.specs.Walk.{choicesOf, pairAdded, added, partialTotal, Decided, noChoices}
 use Rattle.search.proofs.Written.{written, kept}
-
--- a sum of terms that are at most c
-sum-low : (n c : ℕ) (f : ℕ → ℕ) → ((i : ℕ) → i < n → f i ≤ c) → sum n f ≤ n * c
-sum-low n c f h = omega (arith, sum-mono n f (λ i. c) h, sum-const n c)
 
 -- the most that a choice adds: its own cost, and one of each pair
 abbrev pub maxAdded : ℕ
@@ -72,7 +68,7 @@ module _ {b : List ℤ} (s : Study b) where
         (λ n. rw (ne-eqb (second b k) t n) (omega arith))
 
     pub pairs-added-low : (k : ℕ) → k ≤ pairs b → sum k (pairAdded b x t a) ≤ k * maxParts
-    pairs-added-low k h = sum-low k maxParts (pairAdded b x t a) (λ i r. pair-added-low i (omega arith))
+    pairs-added-low k h = sum-most k maxParts (pairAdded b x t a) (λ i r. pair-added-low i (omega arith))
 
     pub added-low : added b x t a ≤ maxAdded
     unfolding added
@@ -87,7 +83,7 @@ module _ {b : List ℤ} (s : Study b) where
         arith,
         d .total,
         constant-range s,
-        sum-low t maxAdded (λ i. added b (choicesOf chosen) i (choicesOf chosen i))
+        sum-most t maxAdded (λ i. added b (choicesOf chosen) i (choicesOf chosen i))
             (λ i q. added-low (choicesOf chosen) i (choicesOf chosen i) (omega arith) (d .below i q) (λ j r. d .below j (omega arith))),
       )
 

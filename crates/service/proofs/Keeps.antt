@@ -12,7 +12,7 @@ use Rattle.tables.specs.Plans.{Shape, Costs, IsPlan, choiceTotal, pairTotal, to
 use Rattle.tables.proofs.Bound.{rounded-least}
 use Rattle.tables.proofs.Plans.{constant-at-most-total}
 use Rattle.tables.proofs.Study.{trains-range, scale-range, pairs-range, first-below-trains, second-below-trains, loaded-choice-range, loaded-entry-range}
-use Rattle.tables.proofs.Sum.{sum-cong, sum-mono, sum-const}
+use Rattle.tables.proofs.Sum.{sum-cong, sum-most}
 use Rattle.service.specs.Replies.{boundOf}
 use Rattle.service.specs.Ledger.{Ledger, costOf}
 use Rattle.service.specs.Claims.{PlanOf, scaledCost, AfterList}
@@ -92,10 +92,8 @@ unfolding total choiceTotal pairTotal
 total-most s t x n m zero choices entries =
     omega (
       arith,
-      sum-mono (s .trains) (λ i. t .choice i (x i)) (λ i. maxCost) choices,
-      sum-const (s .trains) maxCost,
-      sum-mono (s .pairs) (λ j. t .pair j (x (s .first j)) (x (s .second j))) (λ j. maxCost) entries,
-      sum-const (s .pairs) maxCost,
+      sum-most (s .trains) maxCost (λ i. t .choice i (x i)) choices,
+      sum-most (s .pairs) maxCost (λ j. t .pair j (x (s .first j)) (x (s .second j))) entries,
     )
 
 -- a cost of a plan's pair is within its limit

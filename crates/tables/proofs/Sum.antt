@@ -3,7 +3,7 @@ use mathlib.Core.Path.{_≡_, refl, sym, ap, _∙_}
 use mathlib.Core.Bool.{cond}
 use mathlib.Core.Logic.{⊎-elim}
 use Prim.Native.Nat.{ℕ, zero, suc, _+_, _*_, _<_, _≤_}
-use native.Mathlib.Nat.{mul-add, mul-zero, mul-comm, zero-mul, suc-mul, eq-or-lt-of-le, le-of-suc-le-suc}
+use native.Mathlib.Nat.{add-mul, mul-add, mul-le-mul-left, mul-zero, mul-comm, zero-mul, suc-mul, eq-or-lt-of-le, le-of-suc-le-suc}
 use native.Mathlib.Decide.{ℕ-discrete}
 use native.Mathlib.Numerals.{add-one}
 use native.Mathlib.Omega.{arith}
@@ -60,6 +60,27 @@ pub sum-term : (n k : ℕ) (f : ℕ → ℕ) → k < n → f k ≤ sum n f
 unfolding sum
 sum-term zero k f h = absurd (omega arith)
 sum-term (suc n) k f h = ⊎-elim (λ i. omega (arith, ap f i)) (λ l. omega (arith, sum-term n k f l)) (eq-or-lt-of-le (le-of-suc-le-suc h))
+
+-- terms of at most h
+pub sum-most : (n h : ℕ) (f : ℕ → ℕ) → ((i : ℕ) → i < n → f i ≤ h) → sum n f ≤ n * h
+sum-most n h f q = omega (arith, sum-mono n f (λ i. h) q, sum-const n h)
+
+-- the front of a sum, and the front with its next term
+pub sum-front : (m n : ℕ) (f : ℕ → ℕ) → m ≤ n → sum m f ≤ sum n f
+unfolding sum
+sum-front m zero f h = let e : m ≡ 0 = omega arith in rw e (omega arith)
+sum-front m (suc n) f h =
+    ⊎-elim (λ (q : m ≡ suc n). rw q (omega arith)) (λ (q : m < suc n). omega (arith, sum-front m n f (omega arith))) (eq-or-lt-of-le h)
+
+pub sum-part : (n i : ℕ) (f : ℕ → ℕ) → i < n → sum i f + f i ≤ sum n f
+sum-part n i f h = omega (arith, sum-front (i + 1) n f (omega arith), sum-more i f)
+
+-- a weighted sum is at most the sum of the weights times the most that is weighed
+pub sum-weighted : (n h : ℕ) (w f : ℕ → ℕ) → ((i : ℕ) → i < n → f i ≤ h) → sum n (λ i. w i * f i) ≤ sum n w * h
+unfolding sum
+sum-weighted zero h w f q = omega arith
+sum-weighted (suc n) h w f q =
+    rw add-mul (omega (arith, sum-weighted n h w f (λ i l. q i (omega arith)), mul-le-mul-left (w n) (q n (omega arith))))
 
 -- exchange
 pub sum-swap : (n m : ℕ) (f : ℕ → ℕ → ℕ) → sum n (λ i. sum m (λ j. f i j)) ≡ sum m (λ j. sum n (λ i. f i j))

@@ -7,3 +7,4 @@ pub mod WellFormed
 pub mod Rows
 pub mod Numbers
 pub mod Plans
+pub mod Runs

@@ -6,12 +6,12 @@ use native.Mathlib.Omega.{arith}
 use Rattle.tables.specs.Block.{maxChoices, size}
 use Rattle.tables.proofs.Sum.{sum-none, sum-more}
 use Rattle.tables.proofs.Study.{trains-range, size-range}
-use Rattle.certificates.specs.Certify.{choiceStart}
+use Rattle.tables.specs.Runs.{choicesBefore}
 use Rattle.certificates.proofs.certify.choice_start.Statement.{statement}
 use Rattle.certificates.proofs.certify.choice_start.Tie as tie
 
 abbrev Inv-loop : tie.InvT-loop
-Inv-loop b i start₀ k₀ start k = (k ≤ i) × (start ≡ choiceStart b k) × (start ≤ maxChoices * k)
+Inv-loop b i start₀ k₀ start k = (k ≤ i) × (start ≡ choicesBefore b k) × (start ≤ maxChoices * k)
 
 abbrev μ-loop : tie.MeasureT-loop
 μ-loop b i start₀ k₀ start k = i - k

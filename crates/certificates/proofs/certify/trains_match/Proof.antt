@@ -9,14 +9,14 @@ use Rattle.tables.specs.Block.{trains, size}
 use Rattle.tables.proofs.Sum.{sum-none, sum-more}
 use Rattle.tables.proofs.Range.{all-zero, all-more, all-false}
 use Rattle.tables.proofs.Study.{trains-range}
-use Rattle.certificates.specs.Certify.{choiceStart}
+use Rattle.tables.specs.Runs.{choicesBefore}
 use Rattle.certificates.specs.Runs.{runSum, trainMatches, trainsMatch}
 use Rattle.certificates.proofs.Runs.{equal, unequal, train-inside, train-run}
 use Rattle.certificates.proofs.certify.trains_match.Statement.{statement}
 use Rattle.certificates.proofs.certify.trains_match.Tie as tie
 
 abbrev Inv-loop : tie.InvT-loop
-Inv-loop b weights whole n start₀ i₀ start i = (n ≡ trains b) × (i ≤ n) × (start ≡ choiceStart b i) × (all i (trainMatches b weights whole) ≡ true)
+Inv-loop b weights whole n start₀ i₀ start i = (n ≡ trains b) × (i ≤ n) × (start ≡ choicesBefore b i) × (all i (trainMatches b weights whole) ≡ true)
 
 abbrev μ-loop : tie.MeasureT-loop
 μ-loop b weights whole n start₀ i₀ start i = n - i
@@ -38,7 +38,7 @@ run-sum-requires c κs = let l = c .before .before in
 -- the call answers for train i
 run : (c : tie.After-run-sum Inv-loop μ-loop)
     → c .run-sum .result
-    ≡ runSum (c .before .before .before .before .before .before .args .weights .now) (choiceStart (c .before .before .before .before .before .before .args .b .now) (c .before .before .before .loop .i)) 1 (size (c .before .before .before .before .before .before .args .b .now) (c .before .before .before .loop .i))
+    ≡ runSum (c .before .before .before .before .before .before .args .weights .now) (choicesBefore (c .before .before .before .before .before .before .args .b .now) (c .before .before .before .loop .i)) 1 (size (c .before .before .before .before .before .before .args .b .now) (c .before .before .before .loop .i))
 run c = rw (c .before .before .before .loop .inv .2, c .before .size .ensures) at (c .run-sum .ensures)
 
 returns : tie.Need-returns Inv-loop μ-loop

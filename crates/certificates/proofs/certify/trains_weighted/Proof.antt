@@ -7,14 +7,14 @@ use Rattle.tables.specs.Sum.{sum}
 use Rattle.tables.specs.Block.{trains, size}
 use Rattle.tables.proofs.Sum.{sum-none, sum-more}
 use Rattle.tables.proofs.Study.{trains-range}
-use Rattle.certificates.specs.Certify.{choiceStart}
+use Rattle.tables.specs.Runs.{choicesBefore}
 use Rattle.certificates.specs.Runs.{trainWeighted, trainsWeighted}
 use Rattle.certificates.proofs.Runs.{train-inside, train-light, trains-most}
 use Rattle.certificates.proofs.certify.trains_weighted.Statement.{statement}
 use Rattle.certificates.proofs.certify.trains_weighted.Tie as tie
 
 abbrev Inv-loop : tie.InvT-loop
-Inv-loop b weights n sum₀ start₀ i₀ so-far start i = (n ≡ trains b) × (i ≤ n) × (start ≡ choiceStart b i) × (so-far ≡ sum i (trainWeighted b weights))
+Inv-loop b weights n sum₀ start₀ i₀ so-far start i = (n ≡ trains b) × (i ≤ n) × (start ≡ choicesBefore b i) × (so-far ≡ sum i (trainWeighted b weights))
 
 abbrev μ-loop : tie.MeasureT-loop
 μ-loop b weights n sum₀ start₀ i₀ so-far start i = n - i

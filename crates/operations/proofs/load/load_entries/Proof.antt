@@ -9,9 +9,9 @@ use Rattle.operations.specs.Fold.{iter}
 use Rattle.operations.proofs.Fold.{iter-zero, iter-more}
 use native.Mathlib.Nat.{mul-le-mul}
 use Rattle.tables.specs.Block.{maxChoices}
-use Rattle.tables.proofs.Sum.{sum-none, sum-more}
+use Rattle.tables.proofs.Sum.{sum-none, sum-more, sum-part}
 use Rattle.tables.specs.Numbers.{nth, rowsOf, entryStart}
-use Rattle.operations.proofs.LoadTurns.{entriesTurn, pair-at, sum-part}
+use Rattle.operations.proofs.LoadTurns.{entriesTurn, pair-at}
 use Rattle.operations.proofs.load.load_entries.Statement.{statement}
 use Rattle.operations.proofs.load.load_entries.Tie as tie
 

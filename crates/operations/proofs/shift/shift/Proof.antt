@@ -6,7 +6,7 @@ use native.Mathlib.Omega.{arith}
 use Rattle.tables.specs.Block.{maxParts, trains}
 use Rattle.tables.proofs.Study.{same-pairs}
 use Rattle.operations.specs.Outcome.{judged, judgedBlock}
-use Rattle.operations.specs.Shift.{moveStart}
+use Rattle.tables.specs.Runs.{movesBefore}
 use Rattle.operations.proofs.Runs.{room-more}
 use Rattle.operations.proofs.Shape.{Moved, none, moved-as, moved-shape, shapely-kept, study-shapely, study-room}
 use Rattle.operations.proofs.Rooms.{Small, moved-room, lifts-moved, same-start, shifted-by}
@@ -42,7 +42,7 @@ shift-pairs-requires c κs =
     let e = moved-shape h w in (
       shapely-kept e h,
       room-more (2 ^ 48) (moved-room h maxParts (study-room (s .pre .0 .0)) w) (omega (arith, h .trains)),
-      s .pre .0 .2 ∙ sym (ap (moveStart _) (same-pairs e) ∙ same-start e h _ (h .pairs)),
+      s .pre .0 .2 ∙ sym (ap (movesBefore _) (same-pairs e) ∙ same-start e h _ (h .pairs)),
       s .pre .1 .1,
     )
 

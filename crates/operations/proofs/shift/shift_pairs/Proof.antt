@@ -8,7 +8,8 @@ use Rattle.tables.specs.Block.{maxPairs, pairs, size, first, second}
 use Rattle.tables.proofs.Sum.{sum-none, sum-more}
 use Rattle.tables.proofs.Study.{same-pairs}
 use Rattle.operations.specs.Fold.{iter}
-use Rattle.operations.specs.Shift.{moveStart, pairShifted}
+use Rattle.tables.specs.Runs.{movesBefore}
+use Rattle.operations.specs.Shift.{pairShifted}
 use Rattle.operations.proofs.Fold.{iter-zero, iter-turn}
 use Rattle.operations.proofs.Runs.{room-more}
 use Rattle.operations.proofs.Shape.{Moved, none, moved-as, moved-shape, shapely-kept, same-rows, same-columns}
@@ -17,7 +18,7 @@ use Rattle.operations.proofs.shift.shift_pairs.Statement.{statement}
 use Rattle.operations.proofs.shift.shift_pairs.Tie as tie
 
 abbrev Inv-loop : tie.InvT-loop
-Inv-loop b₀ moves m start₀ k₀ b start k = (k ≤ m) × (length b ≡ length b₀) × (start ≡ moveStart b₀ k) × (b ≡ iter k (λ k. pairShifted moves (moveStart b₀ k) k) b₀)
+Inv-loop b₀ moves m start₀ k₀ b start k = (k ≤ m) × (length b ≡ length b₀) × (start ≡ movesBefore b₀ k) × (b ≡ iter k (λ k. pairShifted moves (movesBefore b₀ k) k) b₀)
 
 abbrev μ-loop : tie.MeasureT-loop
 μ-loop b₀ moves m start₀ k₀ b start k = m - k
@@ -32,7 +33,7 @@ chain : (l : tie.At-loop Inv-loop μ-loop) → Moved Small (l .before .before .b
 chain l =
     let s = l .before .before .before in
     moved-as (l .loop .inv .3)
-    (pairs-shifted (s .pre .0) (s .args .moves .now) (λ f d n t x i. s .pre .3 .small i) (moveStart (s .args .b .now)) (l .loop .k) 0 (s .args .b .now) (omega (arith, l .before .pairs .ensures)) none)
+    (pairs-shifted (s .pre .0) (s .args .moves .now) (λ f d n t x i. s .pre .3 .small i) (movesBefore (s .args .b .now)) (l .loop .k) 0 (s .args .b .now) (omega (arith, l .before .pairs .ensures)) none)
 
 shift-pair-requires : tie.Need-shift-pair-requires Inv-loop μ-loop
 shift-pair-requires c κs =
@@ -75,7 +76,7 @@ loop-again c =
         same-rows e h (l .loop .k) g,
         same-columns e h (l .loop .k) g,
       ),
-      iter-turn (λ k. pairShifted (a .moves .now) (moveStart (a .b .now) k) k) (a .b .now) (l .loop .inv .3)
+      iter-turn (λ k. pairShifted (a .moves .now) (movesBefore (a .b .now) k) k) (a .b .now) (l .loop .inv .3)
           (rw (l .loop .inv .2) at (r .shift-pair .ensures .1)),
     )
 
