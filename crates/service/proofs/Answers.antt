@@ -1,9 +1,9 @@
 -- What an answer leaves: a declined call leaves the block, certify and search do too, and the reply does not depend on what lies in the buffer.
 use mathlib.Core.Path.{_≡_, refl, _∙_}
 use mathlib.Core.Bool.{Bool, true, false, cond}
-use mathlib.Core.List.{List, [], _∷_}
+use mathlib.Core.List.{List, []}
 use mathlib.Core.Logic.{_⊎_, inl, inr}
-use Prim.Native.Nat.{ℕ, _+_, _-_, _/_, _%_, _<_, _≤_}
+use Prim.Native.Nat.{ℕ, _+_, _-_, _<_, _≤_}
 use native.Mathlib.Omega.{arith}
 use lib.Dec.{ltb}
 use lib.IntN.{ℤ}
@@ -19,7 +19,6 @@ use Rattle.lines.specs.declared.request.Request.the-variants.{Load, Add, Shift,
 use Rattle.lines.specs.declared.request.Line.{Line}
 use Rattle.lines.specs.declared.request.Line.the-variants.{Asked, Refused}
 use Rattle.lines.specs.Refusals.{refusalNumber}
-use Rattle.lines.specs.Digits.{digitOf}
 use Rattle.lines.specs.Fields.{fieldDigits}
 use Rattle.lines.specs.Layout.{moveWidth, weightWidth}
 use Rattle.lines.specs.Numbers.{runOf, signedRunOf, numbersOf}
@@ -39,7 +38,7 @@ use Rattle.service.specs.Replies.{refusalByte, refusalReply}
 use Rattle.service.specs.Answer.{Answer, answered, declined, operated, certified, requested, lineAnswer, answer, minBuffer, written}
 use Rattle.service.specs.Ledger.{accepted}
 use Rattle.service.proofs.Lines.{clash}
-use Rattle.service.proofs.ReadBack.{number-low, bound-accepted, certify-accepted, search-accepted}
+use Rattle.service.proofs.ReadBack.{bound-accepted, certify-accepted, search-accepted}
 
 -- a declined answer: the block is as it was, and the reply is empty (17) or a refusal's two bytes
 pub record Refuses (reply : List ℕ) : Type 0 where
@@ -118,8 +117,3 @@ written-behind reply buffer k = getD-append-add reply (drop (length reply) buffe
 pub refusal-length : (r : Refusal) → length (refusalReply r) ≡ 4
 unfolding refusalReply
 refusal-length r = omega (arith, digits-length 1 refusalByte (fieldDigits 1 (refusalNumber r) []), digits-length 1 (refusalNumber r) [])
-
--- its characters
-pub refusal-characters : (r : Refusal) → refusalReply r ≡ 70 ∷ 70 ∷ digitOf (refusalNumber r / 16) ∷ digitOf (refusalNumber r % 16) ∷ []
-unfolding refusalReply fieldDigits digitOf
-refusal-characters r = let e : refusalNumber r % 256 ≡ refusalNumber r = omega (arith, number-low r) in rw e

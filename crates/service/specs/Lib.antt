@@ -1,4 +1,5 @@
 pub mod Replies
 pub mod Answer
+pub mod Wrote
 pub mod Ledger
 pub mod Claims

@@ -1,0 +1,95 @@
+-- What a call answers, in the order of the tests: the buffer, the block, the line. No reply is longer than the smallest buffer.
+use mathlib.Core.Path.{_≡_, refl}
+use mathlib.Core.Bool.{Bool, true, false, cond}
+use mathlib.Core.List.{List, []}
+use Prim.Native.Nat.{ℕ, _<_, _≤_}
+use native.Mathlib.Omega.{arith}
+use lib.Dec.{ltb}
+use lib.IntN.{ℤ}
+use lib.ListN.{length}
+use borrow.Author.Tests.{lt-ltb, le-ltb, ltb-false}
+use Rattle.tables.specs.Block.{trains}
+use Rattle.tables.specs.WellFormed.{wellFormed}
+use Rattle.tables.proofs.Study.{trains-range}
+use Rattle.lines.specs.declared.refusal.Refusal.{Refusal}
+use Rattle.lines.specs.declared.refusal.Refusal.the-variants.{CostAbove, PartsOutside, Sums, Malformed}
+use Rattle.lines.specs.declared.request.Request.{Request}
+use Rattle.lines.specs.declared.request.Request.the-variants.{Load, Add, Shift, Tighten, Certify, Search}
+use Rattle.lines.specs.declared.request.Line.{Line}
+use Rattle.lines.specs.declared.request.Line.the-variants.{Asked, Refused}
+use Rattle.lines.specs.Layout.{moveWidth, weightWidth}
+use Rattle.lines.specs.Numbers.{runOf, signedRunOf, numbersOf}
+use Rattle.lines.specs.Reading.{lineOf}
+use Rattle.operations.specs.declared.outcome.Outcome.{Outcome}
+use Rattle.operations.specs.declared.outcome.Outcome.the-variants.{Done, CostAbove as cost-above, PartsOutside as parts-outside}
+use Rattle.operations.specs.Add.{addOutcome, addBlock}
+use Rattle.operations.specs.Load.{loadedBlock}
+use Rattle.operations.specs.Shift.{shiftOutcome, shiftBlock}
+use Rattle.operations.specs.Tighten.{tightenOutcome, tightenBlock}
+use Rattle.certificates.specs.declared.certify.Certificate.{Certificate}
+use Rattle.certificates.specs.declared.certify.Certificate.the-variants.{Unbalanced, Balanced}
+use Rattle.certificates.specs.Certify.{weightsOf, certificate}
+use Rattle.search.specs.Answer.{searchAnswer}
+use Rattle.service.specs.Replies.{refusalReply}
+use Rattle.service.specs.Answer.{answered, declined, operated, certified, requested, lineAnswer, answer, minBuffer}
+use Rattle.service.specs.Wrote.{Wrote, Answers, Asks}
+use Rattle.service.proofs.Answers.{refusal-length}
+use Rattle.service.proofs.Writing.{wrote-none}
+use Rattle.service.proofs.ReplyFields.{bound-length, certify-length, search-length}
+use Rattle.service.proofs.Ready.{search-ready}
+
+module _ (l : List ℕ) (b : List ℤ) (d : List ℕ) where
+  -- 17
+  pub small-buffer : length d < minBuffer → Answers (answer l b d) d b d 0
+  unfolding answer
+  small-buffer h = rw (lt-ltb (length d) minBuffer h) (record { block = refl; reply = wrote-none })
+
+  module _ (h : minBuffer ≤ length d) where
+    -- 16
+    pub malformed-block : {after : List ℕ} {n : ℕ} → wellFormed b ≡ false → Wrote d (refusalReply Malformed) after n → Answers (answer l b d) d b after n
+    unfolding answer
+    malformed-block e w = rw (le-ltb (length d) minBuffer h, e) (record { block = refl; reply = w })
+
+    module _ (e : wellFormed b ≡ true) where
+      pub refused-line : {r : Refusal} {after : List ℕ} {n : ℕ} → lineOf l b ≡ Refused r → Wrote d (refusalReply r) after n → Answers (answer l b d) d b after n
+      unfolding answer
+      refused-line f w = rw (le-ltb (length d) minBuffer h, e, f) (record { block = refl; reply = w })
+
+      pub asked-line : {q : Request} {left : List ℤ} {after : List ℕ} {n : ℕ} → lineOf l b ≡ Asked q → Answers (requested q l b) d left after n → Answers (answer l b d) d left after n
+      unfolding answer
+      asked-line f a = rw (le-ltb (length d) minBuffer h, e, f) a
+
+-- ---- how long replies are
+
+operated-short : (kind : ℕ) (o : Outcome) (old new : List ℤ) → length (operated kind o old new .reply) ≤ minBuffer
+operated-short kind Done old new = omega (arith, bound-length kind new)
+operated-short kind cost-above old new = omega (arith, refusal-length CostAbove)
+operated-short kind parts-outside old new = omega (arith, refusal-length PartsOutside)
+
+certified-short : (whole : ℕ) (c : Certificate) (b : List ℤ) → length (certified whole c b .reply) ≤ minBuffer
+certified-short whole Unbalanced b = omega (arith, refusal-length Sums)
+certified-short whole (Balanced c) b = omega (arith, certify-length whole c)
+
+requested-short : (l : List ℕ) (b : List ℤ) (d : List ℕ) (q : Request) → Asks l b q d → length (requested q l b .reply) ≤ minBuffer
+unfolding requested
+requested-short l b d (Load q) a = omega (arith, bound-length 1 (loadedBlock (numbersOf l)))
+requested-short l b d (Add q) a = operated-short 2 (addOutcome (q .train) (q .choice) (q .points) b) b (addBlock (q .train) (q .choice) (q .points) b)
+requested-short l b d (Shift q) a =
+    let lifts = signedRunOf l (q .lifts .at) moveWidth (q .lifts .count) in
+    let moves = signedRunOf l (q .moves .at) moveWidth (q .moves .count) in
+    operated-short 3 (shiftOutcome lifts moves b) b (shiftBlock lifts moves b)
+requested-short l b d Tighten a = operated-short 4 (tightenOutcome b) b (tightenBlock b)
+requested-short l b d (Certify q) a = certified-short (q .whole) (certificate b (weightsOf b (q .whole) (runOf l (q .weights .at) weightWidth (q .weights .count)))) b
+requested-short l b d (Search q) a = omega (arith, search-length (trains b) (searchAnswer b (q .budget)), trains-range (search-ready a .0))
+
+-- every reply fits the smallest buffer
+pub reply-short : (l : List ℕ) (b : List ℤ) (d : List ℕ) → length (answer l b d .reply) ≤ minBuffer
+unfolding answer
+reply-short l b d = go (ltb (length d) minBuffer) (wellFormed b) (lineOf l b) refl refl refl
+  where
+    go : (t u : Bool) (x : Line) → ltb (length d) minBuffer ≡ t → wellFormed b ≡ u → lineOf l b ≡ x
+        → length (cond t (answered b []) (cond u (lineAnswer x l b) (declined b Malformed)) .reply) ≤ minBuffer
+    go true u x e f g = omega arith
+    go false false x e f g = omega (arith, refusal-length Malformed)
+    go false true (Asked q) e f g = requested-short l b d q (record { room = ltb-false (length d) minBuffer e; right = f; asked = g })
+    go false true (Refused r) e f g = omega (arith, refusal-length r)

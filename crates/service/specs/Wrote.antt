@@ -1,0 +1,37 @@
+-- What a function that writes a reply, or answers a call, leaves, and what the functions for the requests ask.
+use mathlib.Core.Path.{_≡_}
+use mathlib.Core.List.{List}
+use mathlib.Core.Bool.{true}
+use Prim.Native.Nat.{ℕ, _<_, _≤_}
+use lib.IntN.{ℤ}
+use lib.ListN.{length}
+use Rattle.tables.specs.Block.{maxCost, trains, size}
+use Rattle.tables.specs.WellFormed.{wellFormed, Study}
+use Rattle.lines.specs.declared.request.Add.{Add}
+use Rattle.lines.specs.declared.request.Request.{Request}
+use Rattle.lines.specs.declared.request.Line.the-variants.{Asked}
+use Rattle.lines.specs.Reading.{lineOf}
+use Rattle.service.specs.Answer.{Answer, written, minBuffer}
+
+-- the reply stands in front of a buffer, and n is how many characters it has
+pub record Wrote (buffer reply after : List ℕ) (n : ℕ) : Type 0 where
+  pub count : n ≡ length reply
+  pub front : after ≡ written reply buffer
+
+-- the same of an answer, with the block that it leaves
+pub record Answers (a : Answer) (buffer : List ℕ) (left : List ℤ) (after : List ℕ) (n : ℕ) : Type 0 where
+  pub block : left ≡ a .block
+  pub reply : Wrote buffer (a .reply) after n
+
+-- a line makes the request of a well-formed block, and the buffer is large enough
+pub record Asks (l : List ℕ) (b : List ℤ) (q : Request) (buffer : List ℕ) : Type 0 where
+  pub room : minBuffer ≤ length buffer
+  pub right : wellFormed b ≡ true
+  pub asked : lineOf l b ≡ Asked q
+
+-- an addition to a choice that is there, within the highest cost
+pub record Adds (b : List ℤ) (q : Add) : Type 0 where
+  pub study : Study b
+  pub train : q .train < trains b
+  pub choice : q .choice < size b (q .train)
+  pub points : q .points ≤ maxCost

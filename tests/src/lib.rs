@@ -1,0 +1,150 @@
+//! An independent reference of the junction bound service (document 01), and the test tools over it.
+
+pub mod calls;
+pub mod claims;
+pub mod generator;
+pub mod lines;
+pub mod model;
+pub mod operations;
+pub mod product;
+pub mod random;
+pub mod rewriting;
+pub mod search;
+
+use lines::Kind;
+use model::{Refusal, Study, BLOCK_LENGTH};
+use std::error::Error;
+use std::io::{self, BufRead, Write};
+use std::process::ExitCode;
+
+/// "reply buffer below 72 bytes" is number 17.
+pub const LEAST_BUFFER: usize = 72;
+
+/// A service: line, lent block, lent reply buffer; gives the number of bytes written to its front.
+pub type Service = fn(&[u8], &mut [i64], &mut [u8]) -> usize;
+
+/// Answers one line: document 01 as a whole.
+pub fn answer(line: &[u8], block: &mut [i64], reply: &mut [u8]) -> usize {
+    // "17 hands back an empty part and writes nothing."
+    if reply.len() < LEAST_BUFFER {
+        return 0;
+    }
+    // "A declined line answers FF and the number as one byte."
+    let bytes = respond(line, block).unwrap_or_else(|refusal| vec![0xFF, refusal as u8]);
+    let digits = lines::digits(&bytes);
+    reply[..digits.len()].copy_from_slice(&digits);
+    digits.len()
+}
+
+/// The reply's bytes. The block is written only where a line of kinds 01 to 04 is accepted.
+fn respond(line: &[u8], block: &mut [i64]) -> Result<Vec<u8>, Refusal> {
+    // "Order: 17, 16, 2, 1, 3, 4. Then fields from left to right ... Then 10, 12 or 14."
+    let state = model::decode(block)?;
+    let (kind, fields) = lines::open(line)?;
+    let present = || state.ok_or(Refusal::Fresh);
+    match kind {
+        Kind::Load => {
+            let study = lines::load(fields)?;
+            Ok(hold(0x81, &study, block))
+        }
+        Kind::Add => {
+            let mut study = present()?;
+            let add = lines::add(fields, &study)?;
+            operations::add(&mut study, &add)?;
+            Ok(hold(0x82, &study, block))
+        }
+        Kind::Shift => {
+            let mut study = present()?;
+            let shift = lines::shift(fields, &study)?;
+            operations::shift(&mut study, &shift)?;
+            Ok(hold(0x83, &study, block))
+        }
+        Kind::Tighten => {
+            let mut study = present()?;
+            fields.end()?;
+            operations::tighten(&mut study)?;
+            Ok(hold(0x84, &study, block))
+        }
+        // "Certify and search change nothing in the block."
+        Kind::Certify => {
+            let study = present()?;
+            let certificate = lines::certificate(fields, &study)?;
+            let ceiling = operations::ceiling(&study, &certificate)?;
+            Ok(ceiling_reply(&study, &certificate, ceiling))
+        }
+        Kind::Search => {
+            let study = present()?;
+            let budget = lines::budget(fields)?;
+            Ok(walk_reply(&study, &search::walk(&study, budget)))
+        }
+    }
+}
+
+/// Writes the study to the block. "Kinds 01 to 04: 81 to 84, c0 in parts (6), bound in points (6)."
+fn hold(code: u8, study: &Study, block: &mut [i64]) -> Vec<u8> {
+    study.encode(block);
+    let mut bytes = vec![code];
+    lines::put(&mut bytes, 6, study.constant);
+    lines::put(&mut bytes, 6, study.points(study.constant));
+    bytes
+}
+
+/// "Certify: 85, 01 if reached else 00, E (8), W (3)." Reached means E = W × c0.
+fn ceiling_reply(study: &Study, certificate: &operations::Certificate, ceiling: i64) -> Vec<u8> {
+    let reached = ceiling == certificate.whole * study.constant;
+    let mut bytes = vec![0x85, reached as u8];
+    lines::put(&mut bytes, 8, ceiling);
+    lines::put(&mut bytes, 3, certificate.whole);
+    bytes
+}
+
+/// "Search: 86, 01 ended or 00 spent, count (4), cost (6), one byte a train."
+fn walk_reply(study: &Study, walk: &search::Walk) -> Vec<u8> {
+    let mut bytes = vec![0x86, walk.ended as u8];
+    lines::put(&mut bytes, 4, walk.count);
+    match &walk.best {
+        Some(best) => {
+            lines::put(&mut bytes, 6, study.points(best.total));
+            bytes.extend(best.plan.iter().map(|&choice| choice as u8));
+        }
+        // "With no plan yet (budget below n), cost and plan are all FF."
+        None => bytes.resize(bytes.len() + 6 + study.trains.len(), 0xFF),
+    }
+    bytes
+}
+
+/// "A program reads standard input, starts fresh, and prints a reply line for each input line; a
+/// last line without a line end is a line too, unless empty."
+pub fn session(mut input: impl BufRead, mut output: impl Write) -> io::Result<()> {
+    let mut block = vec![0; BLOCK_LENGTH];
+    let mut reply = [0; LEAST_BUFFER];
+    while let Some(line) = next_line(&mut input)? {
+        let written = answer(&line, &mut block, &mut reply);
+        output.write_all(&reply[..written])?;
+        output.write_all(b"\n")?;
+    }
+    output.flush()
+}
+
+/// The input's next line without its line feed.
+pub fn next_line(input: &mut impl BufRead) -> io::Result<Option<Vec<u8>>> {
+    let mut line = Vec::new();
+    if input.read_until(b'\n', &mut line)? == 0 {
+        return Ok(None);
+    }
+    if line.last() == Some(&b'\n') {
+        line.pop();
+    }
+    Ok(Some(line))
+}
+
+/// A program's end: an error is shown on standard error.
+pub fn exit(result: Result<(), Box<dyn Error>>) -> ExitCode {
+    match result {
+        Ok(()) => ExitCode::SUCCESS,
+        Err(error) => {
+            eprintln!("{error}");
+            ExitCode::FAILURE
+        }
+    }
+}

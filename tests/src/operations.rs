@@ -1,0 +1,93 @@
+//! Add, shift, tighten and certify. A refused study is thrown away by the caller.
+
+use crate::model::{Refusal, Study, COSTS};
+
+pub struct Add {
+    pub train: usize,
+    pub choice: usize,
+    pub points: i64,
+}
+
+/// Lifts by train and, by pair, the moves of its first and of its second train.
+pub struct Shift {
+    pub lifts: Vec<i64>,
+    pub moves: Vec<[Vec<i64>; 2]>,
+}
+
+/// W, w by train and z by pair.
+pub struct Certificate {
+    pub whole: i64,
+    pub single: Vec<Vec<i64>>,
+    pub joint: Vec<Vec<i64>>,
+}
+
+/// "H at that choice grows by the points, T by s × points."
+pub fn add(study: &mut Study, add: &Add) -> Result<(), Refusal> {
+    let costs = &mut study.trains[add.train];
+    costs.loaded[add.choice] += add.points;
+    costs.held[add.choice] += study.scale * add.points;
+    if !COSTS.contains(&costs.loaded[add.choice]) {
+        return Err(Refusal::Loaded);
+    }
+    study.judge()
+}
+
+/// "Together: c0 grows by the sum of u_i. c_i(a) becomes c_i(a) − u_i plus all moves of train i,
+/// choice a. c_ij(a,b) becomes c_ij(a,b) − p_i,a − p_j,b. Only the end is judged."
+pub fn shift(study: &mut Study, shift: &Shift) -> Result<(), Refusal> {
+    for (costs, &lift) in study.trains.iter_mut().zip(&shift.lifts) {
+        costs.take(0, 0, lift);
+        study.constant += lift;
+    }
+    for (pair, sides) in study.pairs.iter_mut().zip(&shift.moves) {
+        for (side, moves) in sides.iter().enumerate() {
+            for (choice, &amount) in moves.iter().enumerate() {
+                pair.costs.take(side, choice, amount);
+                study.trains[pair.trains[side]].held[choice] += amount;
+            }
+        }
+    }
+    study.judge()
+}
+
+/// "For each pair in order, for each a ascending, the least c_ij(a,b) over b moves from that row to
+/// c_i(a). Then for each b ascending the least over a moves to c_j(b). After all pairs, by train,
+/// the least c_i(a) is taken off every choice and added to c0."
+pub fn tighten(study: &mut Study) -> Result<(), Refusal> {
+    for pair in &mut study.pairs {
+        for (side, train) in pair.trains.into_iter().enumerate() {
+            for (choice, cost) in study.trains[train].held.iter_mut().enumerate() {
+                let least = pair.costs.least(side, choice);
+                pair.costs.take(side, choice, least);
+                *cost += least;
+            }
+        }
+    }
+    for costs in &mut study.trains {
+        let least = costs.least(0, 0);
+        costs.take(0, 0, least);
+        study.constant += least;
+    }
+    study.judge()
+}
+
+/// E = W × c0 + sum of w × c_i + sum of z × c_ij, where the weights' sums agree; else 14.
+pub fn ceiling(study: &Study, certificate: &Certificate) -> Result<i64, Refusal> {
+    // "Each train's w sum to W."
+    let mut agree = certificate.single.iter().all(|w| w.iter().sum::<i64>() == certificate.whole);
+    // "Each row of z sums to w_i(a), each column to w_j(b)."
+    for (pair, z) in study.pairs.iter().zip(&certificate.joint) {
+        for (side, train) in pair.trains.into_iter().enumerate() {
+            for (choice, &weight) in certificate.single[train].iter().enumerate() {
+                agree &= pair.costs.line(side, choice).map(|cell| z[cell]).sum::<i64>() == weight;
+            }
+        }
+    }
+    if !agree {
+        return Err(Refusal::Sums);
+    }
+    let weights = certificate.single.iter().chain(&certificate.joint).flatten();
+    let costs = study.tables().flat_map(|costs| &costs.held);
+    let products = weights.zip(costs).map(|(weight, cost)| weight * cost);
+    Ok(certificate.whole * study.constant + products.sum::<i64>())
+}

@@ -1,0 +1,100 @@
+//! Rewritings of a study that keep every plan's total and every cost at 0 or above.
+
+use crate::model::{Pair, Study};
+use crate::operations::Shift;
+use crate::random::Random;
+
+/// A study on its way, and the shift that leads to it from where it began.
+pub struct Rewriting {
+    pub study: Study,
+    pub shift: Shift,
+}
+
+impl Rewriting {
+    pub fn of(study: &Study) -> Self {
+        let still = |pair: &Pair| [vec![0; pair.costs.rows], vec![0; pair.costs.columns]];
+        let moves = study.pairs.iter().map(still).collect();
+        Self { study: study.clone(), shift: Shift { lifts: vec![0; study.trains.len()], moves } }
+    }
+
+    /// Moves an amount from a line of a pair's costs to the choice beside it, or back if negative.
+    fn transfer(&mut self, number: usize, side: usize, choice: usize, amount: i64) {
+        let pair = &mut self.study.pairs[number];
+        pair.costs.take(side, choice, amount);
+        self.study.trains[pair.trains[side]].held[choice] += amount;
+        self.shift.moves[number][side][choice] += amount;
+    }
+
+    fn lift(&mut self, train: usize, amount: i64) {
+        self.study.trains[train].take(0, 0, amount);
+        self.study.constant += amount;
+        self.shift.lifts[train] += amount;
+    }
+
+    /// One random move that leaves no cost below 0.
+    pub fn step(&mut self, random: &mut Random) {
+        if self.study.pairs.is_empty() || random.chance(20) {
+            let train = random.below(self.study.trains.len());
+            return self.lift(train, part(random, self.study.trains[train].least(0, 0)));
+        }
+        let number = random.below(self.study.pairs.len());
+        let side = random.below(2);
+        let Pair { trains, costs } = &self.study.pairs[number];
+        let train = &self.study.trains[trains[side]];
+        let (size, other_size) = (train.columns, self.study.size(trains[1 - side]));
+        let choice = random.below(size);
+        match random.below(3) {
+            // From the pair to a choice.
+            0 => self.transfer(number, side, choice, part(random, costs.least(side, choice))),
+            // From a choice to the pair.
+            1 => self.transfer(number, side, choice, -part(random, train.held[choice])),
+            // From every choice of this train to every choice of the other.
+            _ => {
+                let amount = part(random, train.least(0, 0));
+                (0..size).for_each(|choice| self.transfer(number, side, choice, -amount));
+                (0..other_size).for_each(|choice| self.transfer(number, 1 - side, choice, amount));
+            }
+        }
+    }
+
+    /// Each train takes what its pairs can give, lifts, and shares the rest among its pairs; at the
+    /// end each train takes and lifts. Many sweeps come near the greatest constant.
+    pub fn sweep(&mut self) {
+        for train in 0..self.study.trains.len() {
+            let sides = self.take_and_lift(train);
+            for choice in 0..self.study.size(train) {
+                for (place, &(number, side)) in sides.iter().enumerate() {
+                    let share = self.study.trains[train].held[choice] / (sides.len() - place) as i64;
+                    self.transfer(number, side, choice, -share);
+                }
+            }
+        }
+        for train in 0..self.study.trains.len() {
+            self.take_and_lift(train);
+        }
+    }
+
+    /// Gives the numbers of the train's pairs, each with the train's side.
+    fn take_and_lift(&mut self, train: usize) -> Vec<(usize, usize)> {
+        let place = |pair: &Pair| pair.trains.iter().position(|&member| member == train);
+        let pairs = self.study.pairs.iter().enumerate();
+        let sides: Vec<_> = pairs.filter_map(|(number, pair)| Some((number, place(pair)?))).collect();
+        for &(number, side) in &sides {
+            for choice in 0..self.study.size(train) {
+                let least = self.study.pairs[number].costs.least(side, choice);
+                self.transfer(number, side, choice, least);
+            }
+        }
+        self.lift(train, self.study.trains[train].least(0, 0));
+        sides
+    }
+}
+
+/// The whole amount or a random part of it.
+fn part(random: &mut Random, amount: i64) -> i64 {
+    if random.chance(50) {
+        amount
+    } else {
+        random.between(0, amount)
+    }
+}

@@ -1,0 +1,163 @@
+//! The reference against document 01's own examples.
+
+use reference::calls::{digest, Call};
+use reference::lines::digits;
+use reference::model::BLOCK_LENGTH;
+
+const J: &str = "010200010202000002000000000000000000010001000001000000000003000002";
+const CERTIFICATE: &str = "05000001000001000000000000000001000000000001000000000000";
+const SESSION: &str = "\
+010200010202000002000000000000000000010001000001000000000003000002
+04
+05000001000001000000000000000001000000000001000000000000
+060000000A
+";
+const REPLIES: &str = "\
+81000000000000000000000000
+84000000000002000000000002
+85010000000000000002000001
+8601000000040000000000020001
+";
+
+/// The replies to the lines, one after another from a fresh block.
+fn replies(lines: &[&str]) -> Vec<String> {
+    let mut output = Vec::new();
+    reference::session(lines.join("\n").as_bytes(), &mut output).unwrap();
+    let output = String::from_utf8(output).unwrap();
+    output.lines().map(String::from).collect()
+}
+
+/// The reply to the last line.
+fn last(lines: &[&str]) -> String {
+    replies(lines).pop().unwrap()
+}
+
+/// A shift of J: lifts u_0, u_1, then the moves of train 0 and of train 1.
+fn shift(numbers: [i64; 6]) -> String {
+    let bytes = |number: i64| number.to_be_bytes()[2..].to_vec();
+    let bytes: Vec<u8> = numbers.into_iter().flat_map(bytes).collect();
+    format!("03{}", String::from_utf8(digits(&bytes)).unwrap())
+}
+
+#[test]
+fn the_session_prints_its_replies() {
+    let mut output = Vec::new();
+    reference::session(SESSION.as_bytes(), &mut output).unwrap();
+    assert_eq!(String::from_utf8(output).unwrap(), REPLIES);
+}
+
+#[test]
+fn the_last_line_needs_no_line_end_unless_empty() {
+    let run = |input: &str| {
+        let mut output = Vec::new();
+        reference::session(input.as_bytes(), &mut output).unwrap();
+        String::from_utf8(output).unwrap()
+    };
+    assert_eq!(run(SESSION.trim_end()), REPLIES);
+    assert_eq!(run(""), "");
+    assert_eq!(run("\n"), "FF01\n");
+    assert_eq!(run("04\n\n04\r\n"), "FF04\nFF01\nFF01\n");
+}
+
+#[test]
+fn every_row_of_the_table() {
+    let zeros = |count: usize| "0".repeat(count);
+    assert_eq!(last(&["0"]), "FF01");
+    assert_eq!(last(&[&zeros(19_835)]), "FF02");
+    assert_eq!(last(&[&zeros(19_834)]), "FF03");
+    assert_eq!(last(&["FF"]), "FF03");
+    assert_eq!(last(&["04"]), "FF04");
+    assert_eq!(last(&[J, "0400"]), "FF05");
+    assert_eq!(last(&["0100"]), "FF06");
+    assert_eq!(last(&["01010001010F4241"]), "FF07");
+    assert_eq!(last(&["0101000101000000010000"]), "FF08");
+    assert_eq!(last(&[J, "020200000001"]), "FF09");
+    assert_eq!(last(&[J, "0200000F4240"]), "FF0A");
+    assert_eq!(last(&[J, "03FFFFFFFFFFFF"]), "FF0B");
+    assert_eq!(last(&[J, &format!("03000000000001{}", zeros(60))]), "FF0C");
+    assert_eq!(last(&[J, "05000000"]), "FF0D");
+    assert_eq!(last(&[J, &format!("05000001{}", zeros(48))]), "FF0E");
+    assert_eq!(last(&[J, "0600000000"]), "FF0F");
+
+    let mut block = vec![0; BLOCK_LENGTH];
+    let mut reply = [7; 80];
+    let short = &mut block[..BLOCK_LENGTH - 1];
+    assert_eq!(reference::answer(b"04", short, &mut reply), 4);
+    assert_eq!(&reply[..4], b"FF10");
+    assert!(reply[4..].iter().all(|&byte| byte == 7));
+
+    let mut reply = [7; 71];
+    assert_eq!(reference::answer(J.as_bytes(), &mut block, &mut reply), 0);
+    assert_eq!(reply, [7; 71]);
+    assert_eq!(block, vec![0; BLOCK_LENGTH]);
+}
+
+#[test]
+fn the_marked_cases() {
+    let four: Vec<&str> = SESSION.lines().collect();
+    assert_eq!(replies(&four), REPLIES.lines().collect::<Vec<_>>());
+    assert_eq!(last(&[J, "060000000A"]), "8601000000060000000000020001");
+    assert_eq!(last(&[J, CERTIFICATE]), "85000000000000000002000001");
+    assert_eq!(last(&[J, "04", "0600000003"]), "8600000000030000000000020001");
+    assert_eq!(last(&[J, "0600000001"]), "860000000001FFFFFFFFFFFFFFFF");
+    let with_move = shift([2, 0, 0, 2, 0, 0]);
+    assert_eq!(last(&[J, &with_move]), "83000000000002000000000002");
+    assert_eq!(last(&[J, &shift([2, 0, 0, 0, 0, 0])]), "FF0C");
+    assert_eq!(last(&["01010001010F424000"]), "81000000000000000000000000");
+    let sizes = |size: usize| format!("0101000{:02X}{}00", 0x100 + size, "000000".repeat(size));
+    assert_eq!(last(&[&sizes(8)]), "81000000000000000000000000");
+    assert_eq!(last(&[&sizes(9)]), "FF06");
+}
+
+/// Points that the document leaves short.
+#[test]
+fn readings() {
+    assert_eq!(last(&[&"g".repeat(19_835)]), "FF02");
+    assert_eq!(last(&["0f"]), "FF01");
+    assert_eq!(last(&["0400"]), "FF04");
+    assert_eq!(last(&["01"]), "FF05");
+    assert_eq!(last(&["010100"]), "FF05");
+    assert_eq!(last(&["01010000"]), "FF06");
+    assert_eq!(last(&["01010001010000000105"]), "FF05");
+    assert_eq!(last(&[J, "0202"]), "FF09");
+    assert_eq!(last(&[J, "020002"]), "FF09");
+    assert_eq!(last(&[J, "02000000"]), "FF05");
+    assert_eq!(last(&[J, "0200000F42"]), "FF05");
+    assert_eq!(last(&[J, "0200000F4240FF"]), "FF05");
+    assert_eq!(last(&[J, "060000000000"]), "FF0F");
+    assert_eq!(last(&[J, "060000000100"]), "FF05");
+    assert_eq!(last(&[J, "0600000006"]), "8601000000060000000000020001");
+    assert_eq!(last(&[J, "0600000005"]), "8600000000050000000000020001");
+}
+
+#[test]
+fn bounds_round_up() {
+    // s = 2 with a loaded cost of 2: c0 after a lift of 3, 4 and 0 parts.
+    let load = "010100020100000200";
+    for (lift, bound) in [(3, 2), (4, 2), (0, 0)] {
+        let line = format!("03{lift:012X}");
+        assert_eq!(last(&[load, &line]), format!("83{lift:012X}{bound:012X}"));
+    }
+}
+
+#[test]
+fn calls_have_a_text() {
+    assert_eq!(digest([].into_iter()), 1);
+    assert_eq!(digest([-1, 7].into_iter()), {
+        let p = 4_294_967_291_u64;
+        ((65_599 + p - 1 + 1) % p * 65_599 + 8) % p
+    });
+    let mut block = vec![0; BLOCK_LENGTH];
+    let mut run = |text: &str| {
+        let call = Call::parse(text.as_bytes()).unwrap();
+        assert_eq!(call.text(), text.as_bytes());
+        let outcome = call.run(reference::answer, &mut block);
+        String::from_utf8(outcome.text()).unwrap()
+    };
+    assert!(run("71 - 04").starts_with("~ "));
+    assert!(run("72 len=6651 04").starts_with("FF10 "));
+    assert!(run(&format!("72 - {J}")).starts_with("81000000000000000000000000 "));
+    assert!(run("72 3=-1 04").starts_with("FF10 "));
+    assert!(run("72 3=5,316=3 04").starts_with("84000000000007"));
+    assert!(run("72 - ").starts_with("FF01 "));
+}
