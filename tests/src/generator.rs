@@ -21,7 +21,7 @@ pub enum Reach {
 }
 
 /// A line's fields, the kind among them, with their widths in bytes.
-type Fields = Vec<(usize, i64)>;
+pub type Fields = Vec<(usize, i64)>;
 
 pub struct Session {
     random: Random,
@@ -150,11 +150,7 @@ impl Session {
         if self.random.chance(15) {
             self.spoil(&mut fields);
         }
-        let mut bytes = Vec::new();
-        for (width, number) in fields {
-            lines::put(&mut bytes, width, number);
-        }
-        let mut line = lines::digits(&bytes);
+        let mut line = line_of(&fields);
         if self.random.chance(if fresh { 20 } else { 6 }) {
             self.damage(&mut line);
         }
@@ -384,11 +380,20 @@ fn edits(block: &[i64], wanted: &[i64]) -> Vec<(usize, i64)> {
     places.filter(|&(place, value)| block[place] != value).collect()
 }
 
+/// The line of these fields.
+pub fn line_of(fields: &Fields) -> Vec<u8> {
+    let mut bytes = Vec::new();
+    for &(width, number) in fields {
+        lines::put(&mut bytes, width, number);
+    }
+    lines::digits(&bytes)
+}
+
 fn fields(width: usize, numbers: &[i64]) -> impl Iterator<Item = (usize, i64)> + '_ {
     numbers.iter().map(move |&number| (width, number))
 }
 
-fn load_fields(study: &Study) -> Fields {
+pub fn load_fields(study: &Study) -> Fields {
     let mut line = vec![(1, 1), (1, study.trains.len() as i64), (2, study.scale)];
     line.extend(study.trains.iter().map(|costs| (1, costs.columns as i64)));
     line.extend(study.trains.iter().flat_map(|costs| fields(3, &costs.loaded)));
@@ -400,14 +405,14 @@ fn load_fields(study: &Study) -> Fields {
     line
 }
 
-fn shift_fields(shift: &Shift) -> Fields {
+pub fn shift_fields(shift: &Shift) -> Fields {
     let mut line = vec![(1, 3)];
     line.extend(fields(6, &shift.lifts));
     line.extend(shift.moves.iter().flatten().flat_map(|moves| fields(6, moves)));
     line
 }
 
-fn certificate_fields(certificate: &Certificate) -> Fields {
+pub fn certificate_fields(certificate: &Certificate) -> Fields {
     let mut line = vec![(1, 5), (3, certificate.whole)];
     let weights = certificate.single.iter().chain(&certificate.joint);
     line.extend(weights.flat_map(|weights| fields(3, weights)));

@@ -9,7 +9,7 @@ use lib.Dec.{ltb}
 use lib.IntN.{ℤ}
 use lib.ListN.{length, getD, drop}
 use lib.Seq.{getD-append-add, getD-drop}
-use borrow.Author.Tests.{le-ltb}
+use borrow.Author.Tests.{lt-ltb, le-ltb}
 use Rattle.tables.specs.Block.{trains}
 use Rattle.tables.specs.WellFormed.{wellFormed}
 use Rattle.lines.specs.declared.refusal.Refusal.{Refusal}
@@ -19,6 +19,7 @@ use Rattle.lines.specs.declared.request.Request.the-variants.{Load, Add, Shift,
 use Rattle.lines.specs.declared.request.Line.{Line}
 use Rattle.lines.specs.declared.request.Line.the-variants.{Asked, Refused}
 use Rattle.lines.specs.Refusals.{refusalNumber}
+use Rattle.lines.specs.Frames.{maxCharacters}
 use Rattle.lines.specs.Fields.{fieldDigits}
 use Rattle.lines.specs.Layout.{moveWidth, weightWidth}
 use Rattle.lines.specs.Numbers.{runOf, signedRunOf, numbersOf}
@@ -103,6 +104,11 @@ module _ (l : List ℕ) (b : List ℤ) where
   pub buffer-apart : (u v : List ℕ) → minBuffer ≤ length u → minBuffer ≤ length v → answer l b u ≡ answer l b v
   unfolding answer
   buffer-apart u v p q = rw (le-ltb (length u) minBuffer p, le-ltb (length v) minBuffer q)
+
+-- lines over the limit are all answered alike
+pub long-alike : (l k : List ℕ) (b : List ℤ) (d : List ℕ) → maxCharacters < length l → maxCharacters < length k → answer l b d ≡ answer k b d
+unfolding answer lineOf
+long-alike l k b d g h = rw (lt-ltb maxCharacters (length l) g, lt-ltb maxCharacters (length k) h)
 
 -- certificates and searches leave the block, declined or not
 pub certified-leaves : (whole : ℕ) (c : Certificate) (b : List ℤ) → certified whole c b .block ≡ b

@@ -14,6 +14,8 @@ use std::process::{Command, ExitCode, Stdio};
 use std::thread;
 
 const CALLS_PER_SESSION: usize = 50;
+/// How many bytes of a session's input are written at once, by turns.
+const PIECES: [usize; 4] = [1, 61, 4096, 1 << 20];
 
 fn main() -> ExitCode {
     reference::exit(run())
@@ -83,7 +85,8 @@ fn program(path: &str, seed: u64, sessions: usize) -> Result<(), Box<dyn Error>>
         let mut child = Command::new(path).stdin(Stdio::piped()).stdout(Stdio::piped()).spawn()?;
         let mut pipe = child.stdin.take().ok_or("no pipe")?;
         let copy = input.clone();
-        let writer = thread::spawn(move || pipe.write_all(&copy));
+        let piece = PIECES[number % PIECES.len()];
+        let writer = thread::spawn(move || copy.chunks(piece).try_for_each(|part| pipe.write_all(part)));
         let output = child.wait_with_output()?;
         // A program that stops reading early shows by its output.
         writer.join().map_err(|_| "the writing thread failed")?.ok();

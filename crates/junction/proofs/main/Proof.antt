@@ -1,0 +1,47 @@
+-- Each turn counts the reads left down by one; what is kept of a line never passes its array.
+use borrow.Author.Needs.{needs}
+use Prim.Native.Nat.{_≤_}
+use Rattle.stream.specs.Parts.{keptMost}
+use Rattle.junction.proofs.main.Statement.{statement}
+use Rattle.junction.proofs.main.Tie as tie
+
+abbrev Inv-loop : tie.InvT-loop
+Inv-loop bytes₀ line₀ block₀ length₀ reads₀ bytes line block length reads = length ≤ keptMost
+
+abbrev μ-loop : tie.MeasureT-loop
+μ-loop bytes₀ line₀ block₀ length₀ reads₀ bytes line block length reads = reads
+
+loop-holds : tie.Need-loop-holds Inv-loop μ-loop
+loop-holds c = search needs
+
+answer-read-requires : tie.Need-answer-read-requires Inv-loop μ-loop
+answer-read-requires c κs = search needs
+
+returns : tie.Need-returns Inv-loop μ-loop
+returns c = search needs
+
+sub-reads : tie.Need-sub-reads Inv-loop μ-loop
+sub-reads c = search needs
+
+loop-less : tie.Need-loop-less Inv-loop μ-loop
+loop-less c = search needs
+
+loop-again : tie.Need-loop-again Inv-loop μ-loop
+loop-again c = search needs
+
+returns-2 : tie.Need-returns-2 Inv-loop μ-loop
+returns-2 c = search needs
+
+pub main-spec : {M : Type 1} → statement M
+main-spec =
+    tie.close
+    (tie.spec
+    Inv-loop
+    μ-loop
+    loop-holds
+    answer-read-requires
+    returns
+    sub-reads
+    loop-less
+    loop-again
+    returns-2)

@@ -1,0 +1,36 @@
+-- How a loop finds the end of a line: the bytes so far have no line feed, and the length of the line is counted from where the loop stands.
+use mathlib.Core.Path.{_≡_}
+use mathlib.Core.Bool.{Bool, true, false, cond}
+use mathlib.Core.List.{List, [], _∷_}
+use Prim.Native.Nat.{ℕ, suc, _+_, _<_, _≤_}
+use native.Mathlib.Numerals.{add-one}
+use native.Mathlib.Omega.{arith}
+use lib.Dec.{eqb}
+use lib.ListN.{length, drop, getD}
+use lib.Seq.{drop-cons, drop-length}
+use Rattle.stream.specs.Session.{lineFeed}
+use Rattle.stream.specs.Parts.{lineLength}
+
+module _ (part : List ℕ) (i : ℕ) (h : i < length part) where
+  -- the byte at i is a line feed
+  pub line-ends : eqb (getD part i 0) lineFeed ≡ true → lineLength (drop i part) ≡ 0
+  unfolding lineLength
+  line-ends e = rw (drop-cons part i 0 h, e)
+
+  -- it is none
+  pub line-goes-on : eqb (getD part i 0) lineFeed ≡ false → lineLength (drop i part) ≡ suc (lineLength (drop (i + 1) part))
+  unfolding lineLength
+  line-goes-on e = rw (drop-cons part i 0 h, e, add-one)
+
+pub none-left : (part : List ℕ) → lineLength (drop (length part) part) ≡ 0
+unfolding lineLength
+none-left part = rw (drop-length part)
+
+pub line-length-most : (part : List ℕ) → lineLength part ≤ length part
+unfolding lineLength
+line-length-most [] = omega arith
+line-length-most (c ∷ l) = go (eqb c lineFeed) (line-length-most l)
+  where
+    go : (t : Bool) → lineLength l ≤ length l → cond t 0 (suc (lineLength l)) ≤ suc (length l)
+    go true h = omega arith
+    go false h = omega arith

@@ -1,0 +1,154 @@
+-- However an input is cut into parts, what is printed is what the definition prints on the whole input. A step takes the line to its end; of a line that is longer than a
+-- line may be only the front is kept, and it is declined like the whole line.
+use mathlib.Core.Path.{_≡_, refl, sym, _∙_, ap}
+use mathlib.Core.Bool.{Bool, true, false, cond}
+use mathlib.Core.List.{List, [], _∷_, _++_, append-assoc, append-nil}
+use Prim.Native.Nat.{ℕ, zero, suc, _+_, _-_, _<_, _≤_}
+use native.Mathlib.Omega.{arith}
+use lib.Dec.{ltb, eqb}
+use lib.IntN.{ℤ}
+use lib.ListN.{length, take, drop, length-take, length-drop, drop-of-length-le}
+use lib.Seq.{take-all, take-take, take-append-le, length-take-le}
+use borrow.Author.Tests.{ltb-true, ltb-false, ne-eqb}
+use Rattle.lines.specs.Frames.{maxCharacters}
+use Rattle.service.specs.Ledger.{freshBlock, entries}
+use Rattle.service.proofs.Answers.{long-alike}
+use Rattle.stream.specs.Session.{lineFeed, lineCall, lineCalls, linesFrom, replyLines, printed}
+use Rattle.stream.specs.Parts.{lineLength, keptMost, lengthened, answerLine, Shown, steps, lastLine, byParts, joined}
+use Rattle.stream.proofs.Steps.{next-open, next-ended}
+
+-- ---- the front that is kept
+
+-- a line is answered like what is kept of it
+kept-answered : (l : List ℕ) (b : List ℤ) → answerLine (take keptMost l) b ≡ answerLine l b
+unfolding answerLine
+kept-answered l b = go (ltb maxCharacters (length l)) refl
+  where
+    go : (t : Bool) → ltb maxCharacters (length l) ≡ t → answerLine (take keptMost l) b ≡ answerLine l b
+    go true e =
+        let h = ltb-true maxCharacters (length l) e in
+        rw (long-alike (take keptMost l) l b (lineCall l .buffer) (omega (arith, h, length-take keptMost l)) h)
+    go false e = rw (take-all keptMost l (omega (arith, ltb-false maxCharacters (length l) e)))
+
+-- bytes behind what is kept of a line, and behind the line
+kept-more : (most : ℕ) (l p : List ℕ) → take most (take most l ++ p) ≡ take most (l ++ p)
+kept-more most l p = go (ltb (length l) most) refl
+  where
+    go : (t : Bool) → ltb (length l) most ≡ t → take most (take most l ++ p) ≡ take most (l ++ p)
+    go true e = rw (take-all most l (omega (arith, ltb-true (length l) most e)))
+    go false e =
+        let h = ltb-false (length l) most e in
+        take-append-le most (take most l) p (omega (arith, length-take-le most l h)) ∙ take-take most most l (omega arith) ∙ sym (take-append-le most l p h)
+
+-- none of a line is kept only where it is empty
+kept-empty : (l : List ℕ) → eqb (length (take keptMost l)) 0 ≡ eqb (length l) 0
+kept-empty [] = refl
+kept-empty (c ∷ l) = rw (ne-eqb (length (take keptMost (c ∷ l))) 0 (λ e. omega (arith, length-take keptMost (c ∷ l))), ne-eqb (length {A = ℕ} (c ∷ l)) 0 (λ e. omega arith))
+
+-- ---- the lines of an input that begins with a part
+
+module _ (rest : List ℕ) where
+  lines-go-on : (part front : List ℕ) → length part ≤ lineLength part → linesFrom front (part ++ rest) ≡ linesFrom (front ++ part) rest
+  unfolding lineLength linesFrom
+  lines-go-on [] front h = rw (append-nil front)
+  lines-go-on (c ∷ l) front h = go (eqb c lineFeed) refl (λ g. lines-go-on l (front ++ c ∷ []) g)
+    where
+      go : (t : Bool) → eqb c lineFeed ≡ t → (length l ≤ lineLength l → linesFrom (front ++ c ∷ []) (l ++ rest) ≡ linesFrom (front ++ c ∷ [] ++ l) rest)
+          → linesFrom front (c ∷ l ++ rest) ≡ linesFrom (front ++ c ∷ l) rest
+      go true e next = let g : suc (length l) ≤ 0 = rw e at h in absurd (omega arith)
+      go false e next =
+          let g : suc (length l) ≤ suc (lineLength l) = rw e at h in
+          rw e (next (omega arith) ∙ ap (λ x. linesFrom x rest) (append-assoc front (c ∷ []) l))
+
+  lines-end : (part front : List ℕ) → lineLength part < length part
+      → linesFrom front (part ++ rest) ≡ (front ++ take (lineLength part) part) ∷ linesFrom [] (drop (suc (lineLength part)) part ++ rest)
+  unfolding lineLength linesFrom
+  lines-end [] front h = absurd (omega arith)
+  lines-end (c ∷ l) front h = go (eqb c lineFeed) refl (λ g. lines-end l (front ++ c ∷ []) g)
+    where
+      go : (t : Bool) → eqb c lineFeed ≡ t
+          → (lineLength l < length l → linesFrom (front ++ c ∷ []) (l ++ rest) ≡ (front ++ c ∷ [] ++ take (lineLength l) l) ∷ linesFrom [] (drop (suc (lineLength l)) l ++ rest))
+          → linesFrom front (c ∷ l ++ rest) ≡ (front ++ take (lineLength (c ∷ l)) (c ∷ l)) ∷ linesFrom [] (drop (suc (lineLength (c ∷ l))) (c ∷ l) ++ rest)
+      go true e next = rw (e, append-nil front)
+      go false e next =
+          let g : suc (lineLength l) < suc (length l) = rw e at h in
+          rw e (next (omega arith) ∙ ap (λ x. x ∷ linesFrom [] (drop (suc (lineLength l)) l ++ rest)) (append-assoc front (c ∷ []) (take (lineLength l) l)))
+
+-- ---- what is printed on an input that begins behind a front
+
+unfoldable printedFrom : List ℕ → List ℤ → List ℕ → List ℕ
+printedFrom front b input = replyLines (entries b (lineCalls (linesFrom front input)))
+
+printed-on : (front : List ℕ) (b : List ℤ) (part rest : List ℕ) → length part ≤ lineLength part → printedFrom front b (part ++ rest) ≡ printedFrom (front ++ part) b rest
+unfolding printedFrom
+printed-on front b part rest h = rw (lines-go-on rest part front h)
+
+printed-line : (front : List ℕ) (b : List ℤ) (part rest : List ℕ) → lineLength part < length part
+    → printedFrom front b (part ++ rest)
+    ≡ answerLine (front ++ take (lineLength part) part) b .reply ++ printedFrom [] (answerLine (front ++ take (lineLength part) part) b .block) (drop (suc (lineLength part)) part ++ rest)
+unfolding printedFrom answerLine replyLines entries
+printed-line front b part rest h = rw (lines-end rest part front h)
+
+printed-last : (front : List ℕ) (b : List ℤ) → printedFrom front b [] ≡ lastLine front b
+unfolding printedFrom linesFrom replyLines entries answerLine
+printed-last front b = go (eqb (length front) 0)
+  where
+    go : (t : Bool) → replyLines (entries b (lineCalls (cond t [] (front ∷ [])))) ≡ cond t [] (answerLine front b .reply)
+    go true = refl
+    go false = append-nil _
+
+-- ---- steps over a part
+
+-- what steps come to, for whatever follows the part: what they print, and then what is printed behind the front that they leave
+record Follows (front : List ℕ) (b : List ℤ) (part : List ℕ) (s : Shown) : Type 0 where
+  left : List ℕ
+  kept : s .line ≡ take keptMost left
+  prints : (rest : List ℕ) → printedFrom front b (part ++ rest) ≡ s .shown ++ printedFrom left (s .block) rest
+
+-- one step, and then the others
+follows-next : (front : List ℕ) (b : List ℤ) (part : List ℕ) (f : ℕ)
+    → ((front′ : List ℕ) (b′ : List ℤ) (part′ : List ℕ) → length part′ ≤ f → Follows front′ b′ part′ (steps f (take keptMost front′) b′ part′))
+    → length part ≤ suc f → Follows front b part (steps (suc f) (take keptMost front) b part)
+unfolding steps lengthened
+follows-next front b part f others h = go (ltb (lineLength part) (length part)) refl
+  where
+    line : List ℕ
+    line = front ++ take (lineLength part) part
+
+    go : (t : Bool) → ltb (lineLength part) (length part) ≡ t → Follows front b part (steps (suc f) (take keptMost front) b part)
+    go true e =
+        let g = ltb-true (lineLength part) (length part) e in
+        let o = others [] (answerLine line b .block) (drop (suc (lineLength part)) part) (omega (arith, length-drop (suc (lineLength part)) part)) in
+        rw (next-ended (take keptMost front) b part g, kept-more keptMost front (take (lineLength part) part), kept-answered line b)
+        (record {
+          left = o .left;
+          kept = o .kept;
+          prints = λ rest. printed-line front b part rest g ∙ ap (λ x. answerLine line b .reply ++ x) (o .prints rest) ∙ sym (append-assoc (answerLine line b .reply) _ _);
+        })
+    go false e =
+        let g = ltb-false (lineLength part) (length part) e in
+        let o = others (front ++ part) b [] (omega arith) in
+        rw (next-open (take keptMost front) b part g, kept-more keptMost front (take (lineLength part) part), take-all (lineLength part) part g, drop-of-length-le part g)
+        (record { left = o .left; kept = o .kept; prints = λ rest. printed-on front b part rest g ∙ o .prints rest })
+
+follows : (f : ℕ) (front : List ℕ) (b : List ℤ) (part : List ℕ) → length part ≤ f → Follows front b part (steps f (take keptMost front) b part)
+unfolding steps
+follows zero front b [] h = record { left = front; kept = refl; prints = λ rest. refl }
+follows zero front b (c ∷ l) h = absurd (omega arith)
+follows (suc f) front b part h = follows-next front b part f (follows f) h
+
+-- ---- all parts
+
+parts-printed : (parts : List (List ℕ)) (front : List ℕ) (b : List ℤ) → byParts (take keptMost front) b parts ≡ printedFrom front b (joined parts)
+unfolding byParts joined
+parts-printed [] front b = rw (printed-last front b, kept-empty front, kept-answered front b)
+parts-printed (p ∷ ps) front b =
+    let o = follows (length p) front b p (omega arith) in
+    ap (λ x. steps (length p) (take keptMost front) b p .shown ++ byParts x (steps (length p) (take keptMost front) b p .block) ps) (o .kept)
+    ∙ ap (λ x. steps (length p) (take keptMost front) b p .shown ++ x) (parts-printed ps (o .left) (steps (length p) (take keptMost front) b p .block))
+    ∙ sym (o .prints (joined ps))
+
+-- what is printed on parts is what the definition prints on the whole input
+pub printed-by-parts : (parts : List (List ℕ)) → byParts [] freshBlock parts ≡ printed (joined parts)
+unfolding printedFrom
+printed-by-parts parts = parts-printed parts [] freshBlock
