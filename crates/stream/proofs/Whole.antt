@@ -11,9 +11,11 @@ use lib.ListN.{length, take, drop, length-take, length-drop, drop-of-length-le}
 use lib.Seq.{take-all, take-take, take-append-le, length-take-le}
 use borrow.Author.Tests.{ltb-true, ltb-false, ne-eqb}
 use Rattle.lines.specs.Frames.{maxCharacters}
+use Rattle.service.specs.Claims.{Demand}
 use Rattle.service.specs.Ledger.{freshBlock, entries}
+use Rattle.service.proofs.Demand.{demand}
 use Rattle.service.proofs.Answers.{long-alike}
-use Rattle.stream.specs.Session.{lineFeed, lineCall, lineCalls, linesFrom, replyLines, printed}
+use Rattle.stream.specs.Session.{lineFeed, lineCall, lineCalls, linesFrom, inputLines, replyLines, printed}
 use Rattle.stream.specs.Parts.{lineLength, keptMost, lengthened, answerLine, Shown, steps, lastLine, byParts, joined}
 use Rattle.stream.proofs.Steps.{next-open, next-ended}
 
@@ -152,3 +154,7 @@ parts-printed (p ∷ ps) front b =
 pub printed-by-parts : (parts : List (List ℕ)) → byParts [] freshBlock parts ≡ printed (joined parts)
 unfolding printedFrom
 printed-by-parts parts = parts-printed parts [] freshBlock
+
+-- demand 3, of the lines of every input
+pub input-demand : (input : List ℕ) → Demand (lineCalls (inputLines input))
+input-demand input = demand (lineCalls (inputLines input))
