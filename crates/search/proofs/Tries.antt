@@ -1,5 +1,5 @@
 -- Laws of a single try and of the tries of one train, and both in the terms of the code: what is left is a difference, and the next place is one more.
-use mathlib.Core.Path.{_≡_, refl, _∙_}
+use mathlib.Core.Path.{_≡_, refl, ap, _∙_}
 use mathlib.Core.Bool.{Bool, true, false}
 use mathlib.Core.List.{List}
 use Prim.Native.Nat.{ℕ, zero, suc, _+_, _-_, _<_}
@@ -11,7 +11,7 @@ use lib.ListN.{set}
 use borrow.Author.Tests.{eqb-true, eqb-false}
 use Rattle.tables.specs.Block.{trains, constant, size}
 use Rattle.search.specs.declared.steps.Walk.{Walk}
-use Rattle.search.specs.Walk.{choicesOf, added, counted, markedSpent, wholePlan, pickWalk, dropped, countedTry, oneTry, triedFrom, choiceTry, openedTrain, noChoices, nothingTried, searched, choiceOf, choicesFrom}
+use Rattle.search.specs.Walk.{counted, markedSpent, wholePlan, pickWalk, dropped, countedTry, oneTry, triedFrom, choiceTry, openedTrain, noChoices, nothingTried, searched, comesTo, tryOf, choiceOf, choicesFrom}
 
 -- ---- what holds after each of the four ways of a try holds after it
 
@@ -64,7 +64,7 @@ module _ {P : Walk → Type 0} {budget : ℕ} (keep : Kept P budget) (b : List �
       (λ a q. try-keeps _ _ (opened-keeps left (t + 1) _ _)) w p
 
   pub choice-keeps : (t a partial : ℕ) (chosen : List ℕ) (w : Walk) → P w → P (choiceOf b budget t partial chosen a w)
-  unfolding choiceOf
+  unfolding tryOf
   choice-keeps t a partial chosen w p = try-keeps _ _ (opened-keeps (trains b - (t + 1)) (t + 1) _ _) w p
 
 -- ---- in the terms of the code
@@ -87,7 +87,7 @@ module _ (b : List ℤ) (budget : ℕ) where
 
   pub opens : (u partial : ℕ) (chosen : List ℕ) (w : Walk) → u < trains b
       → openedTrain b budget (trains b - u) u partial chosen w ≡ choicesFrom b budget u 0 partial chosen w
-  unfolding openedTrain choiceOf
+  unfolding openedTrain tryOf
   opens u partial chosen w h = rw (one-less u (trains b) h) (let z : size b u - 0 ≡ size b u = omega arith in rw z)
 
   -- the first train
@@ -95,30 +95,35 @@ module _ (b : List ℤ) (budget : ℕ) where
   unfolding searched
   starts {partial} {w} h e f = rw (← e, ← f) (rw (sub-zero (trains b)) at (opens 0 partial noChoices w h))
 
+  -- the try of a choice by what it comes to
+  pub tried : (t a : ℕ) (chosen : List ℕ) (w : Walk) {total partial known : ℕ} {r : Walk}
+      → total ≡ comesTo b t partial chosen a → partial ≡ known → r ≡ tryOf b budget t total chosen a w → r ≡ choiceOf b budget t known chosen a w
+  tried t a chosen w e f g = g ∙ ap (λ (v : ℕ). tryOf b budget t v chosen a w) (e ∙ ap (λ (v : ℕ). comesTo b t v chosen a) f)
+
   -- one try, by its ways
-  module _ (t a partial : ℕ) (chosen : List ℕ) (w : Walk) where
-    pub try-spent : w .spent ≡ true → choiceOf b budget t partial chosen a w ≡ w
-    unfolding oneTry choiceOf
+  module _ (t a total : ℕ) (chosen : List ℕ) (w : Walk) where
+    pub try-spent : w .spent ≡ true → tryOf b budget t total chosen a w ≡ w
+    unfolding oneTry tryOf
     try-spent e = rw e
 
     module _ (e : w .spent ≡ false) where
-      pub try-out : eqb (w .count) budget ≡ true → choiceOf b budget t partial chosen a w ≡ markedSpent w
-      unfolding oneTry choiceOf
+      pub try-out : eqb (w .count) budget ≡ true → tryOf b budget t total chosen a w ≡ markedSpent w
+      unfolding oneTry tryOf
       try-out f = rw (e, f)
 
-      module _ {total : ℕ} (f : eqb (w .count) budget ≡ false) (g : total ≡ partial + added b (choicesOf chosen) t a) where
-        pub try-dropped : dropped w total ≡ true → choiceOf b budget t partial chosen a w ≡ counted w
-        unfolding oneTry choiceOf
-        try-dropped d = rw (e, f, ← g, d)
+      module _ (f : eqb (w .count) budget ≡ false) where
+        pub try-dropped : dropped w total ≡ true → tryOf b budget t total chosen a w ≡ counted w
+        unfolding oneTry tryOf
+        try-dropped d = rw (e, f, d)
 
         -- what the next train does with the choices l and the walk v
         module _ {l : List ℕ} {v : Walk} (d : dropped w total ≡ false) (p : l ≡ set chosen t a) (q : v ≡ counted w) where
-          try-next : choiceOf b budget t partial chosen a w ≡ openedTrain b budget (trains b - (t + 1)) (t + 1) total l v
-          unfolding oneTry choiceOf
-          try-next = rw (p, q, e, f, ← g, d)
+          try-next : tryOf b budget t total chosen a w ≡ openedTrain b budget (trains b - (t + 1)) (t + 1) total l v
+          unfolding oneTry tryOf
+          try-next = rw (p, q, e, f, d)
 
-          pub try-whole : t + 1 ≡ trains b → choiceOf b budget t partial chosen a w ≡ wholePlan total l v
+          pub try-whole : t + 1 ≡ trains b → tryOf b budget t total chosen a w ≡ wholePlan total l v
           try-whole h = try-next ∙ whole (t + 1) total l v h
 
-          pub try-opens : t + 1 < trains b → choiceOf b budget t partial chosen a w ≡ choicesFrom b budget (t + 1) 0 total l v
+          pub try-opens : t + 1 < trains b → tryOf b budget t total chosen a w ≡ choicesFrom b budget (t + 1) 0 total l v
           try-opens h = try-next ∙ opens (t + 1) total l v h

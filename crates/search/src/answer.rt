@@ -48,7 +48,6 @@ fn walked(b: &[i64], budget: u64) -> Walk
         &nexts,
         budget,
         0,
-        0,
         block::constant(b),
         [0u8; 24],
         steps::start(),

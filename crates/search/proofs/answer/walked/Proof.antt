@@ -21,12 +21,6 @@ slice-aggregate-fill-nexts c = search needs
 fill-nexts-requires : tie.Need-fill-nexts-requires
 fill-nexts-requires c κs = search needs
 
-slice-aggregate-open-train : tie.Need-slice-aggregate-open-train
-slice-aggregate-open-train c = search needs
-
-slice-aggregate-open-train-2 : tie.Need-slice-aggregate-open-train-2
-slice-aggregate-open-train-2 c = search needs
-
 constant-requires : tie.Need-constant-requires
 constant-requires c κs = search needs
 
@@ -41,7 +35,6 @@ open-train-requires c κs =
       record {
         within = s .pre .1;
         train = trains-range (s .pre .0) .0;
-        choice = omega arith;
         decided = rw (c .before .constant .ensures) (decided-start (s .pre .0));
         count = omega (arith, ap (λ (v : Walk). v .count) (c .start .ensures));
       },
@@ -60,8 +53,6 @@ walked-spec =
     fill-heads-requires
     slice-aggregate-fill-nexts
     fill-nexts-requires
-    slice-aggregate-open-train
-    slice-aggregate-open-train-2
     constant-requires
     start-requires
     open-train-requires
