@@ -1,6 +1,6 @@
 -- The limits of each place, region by region: `limitsAt` without its tests.
 use mathlib.Core.Path.{_≡_, refl}
-use mathlib.Core.Bool.{true, _&&_}
+use mathlib.Core.Bool.{true, false, _&&_}
 use mathlib.Core.List.{List}
 use Prim.Native.Nat.{ℕ, _+_, _*_, _-_, _/_, _%_, _<_, _≤_}
 use native.Mathlib.Omega.{arith}
@@ -13,7 +13,7 @@ use Rattle.tables.proofs.Range.{both-true}
 
 -- ---- within
 
-within-parts : (l : Limits) (z : ℤ) → within l z ≡ true → (z ≡ pos (nat z)) × ((l .low ≤ nat z) × (nat z ≤ l .high))
+pub within-parts : (l : Limits) (z : ℤ) → within l z ≡ true → (z ≡ pos (nat z)) × ((l .low ≤ nat z) × (nat z ≤ l .high))
 unfolding within
 within-parts l (pos n) e = (refl, (leb-true _ _ (both-true (leb (l .low) n) (leb n (l .high)) e .0), leb-true _ _ (both-true (leb (l .low) n) (leb n (l .high)) e .1)))
 within-parts l (negsuc n) e = let z : _≡_ {A = ℕ} 0 1 = cc in absurd (omega arith)
@@ -49,6 +49,11 @@ entry-used b k a c h q =
     let f : (entriesOfPair * k + (maxChoices * a + c)) % 64 / 8 ≡ a = omega arith in
     let g : (entriesOfPair * k + (maxChoices * a + c)) % 8 ≡ c = omega arith in
     rw (e, f, g)
+
+-- no offset is that of a pair that is not there
+pub entry-absent : (b : List ℤ) (k o : ℕ) → pairs b ≤ k → o < entriesOfPair → entryUsed b (entriesOfPair * k + o) ≡ false
+unfolding entryUsed
+entry-absent b k o h q = let e : (entriesOfPair * k + o) / 64 ≡ k = omega arith in rw (e, le-ltb k (pairs b) h)
 
 -- ---- the limits of each region
 

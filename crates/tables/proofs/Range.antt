@@ -37,6 +37,10 @@ module _ (p : ℕ → Bool) where
   all-zero = refl
 
   -- a loop's next turn
+  pub all-next : (n : ℕ) → all (n + 1) p ≡ all n p && p n
+  unfolding all
+  all-next n = rw add-one
+
   pub all-more : (n : ℕ) → all n p ≡ true → p n ≡ true → all (n + 1) p ≡ true
   unfolding all
   all-more n e f = rw (add-one, e, f)

@@ -15,7 +15,7 @@ use Rattle.tables.specs.Block.{blockLength, maxTrains, maxChoices, maxPa
 use Rattle.tables.specs.WellFormed.{Limits, from-to, within, usedIf, choiceUsed, entryUsed, headLimits, limitsAt, placeRight, placesRight, isZero, fresh}
 use Rattle.tables.specs.Rows.{runWithin, rowWithin, rightAt, headRight, shapeRight, choicesUsed, choicesWithin, entriesUsed, pairWithin, entriesWithin}
 use Rattle.tables.proofs.Range.{both-true, bool-ext, all-true, all-split, all-rows, all-cong, pass-all}
-use Rattle.tables.proofs.Limits.{within-figure, choice-used, entry-used, limits-head, limits-size, limits-first, limits-second, limits-loaded-choices, limits-held-choices, limits-loaded-entries, limits-held-entries}
+use Rattle.tables.proofs.Limits.{within-figure, choice-used, entry-used, entry-absent, limits-head, limits-size, limits-first, limits-second, limits-loaded-choices, limits-held-choices, limits-loaded-entries, limits-held-entries}
 
 -- ---- one row
 
@@ -78,6 +78,17 @@ module _ (b : List ℤ) (from : ℕ) (l : Limits) where
       entry a c h q =
           let e : from + (entriesOfPair * k + (maxChoices * a + c)) ≡ from + (entriesOfPair * k + maxChoices * a) + c = omega arith in
           rw (entry-used b k a c h q, used-if (ltb a (size b (first b k))) c (size b (second b k)), used-if (ltb k (pairs b)) c (cond (ltb a (size b (first b k))) (size b (second b k)) 0), e)
+
+  -- the places of a pair that is not there are one run of unused places
+  pub pair-absent : (k : ℕ) → pairs b ≤ k → pairWithin b from k l ≡ runWithin b (from + entriesOfPair * k) entriesOfPair (from-to 0 0)
+  pair-absent k h = all-cong entriesOfPair _ _ (λ o q. unused o q)
+    where
+      unused : (o : ℕ) → o < entriesOfPair
+          → within (usedIf (entryUsed b (entriesOfPair * k + o)) l) (at b (from + (entriesOfPair * k + o)))
+          ≡ within (from-to 0 0) (at b (from + entriesOfPair * k + o))
+      unused o q =
+          let e : from + (entriesOfPair * k + o) ≡ from + entriesOfPair * k + o = omega arith in
+          rw (entry-absent b k o h q, e)
 
   pub entries-rows : entriesWithin b from l ≡ all maxPairs (λ k. pairWithin b from k l)
   entries-rows = all-rows (λ o. within (usedIf (entryUsed b o) l) (at b (from + o))) entriesOfPair maxPairs

@@ -1,18 +1,21 @@
 -- A signed number of 64 bits that is read as a natural one. Above these laws no proof sees ℤ.
 use mathlib.Core.Path.{_≡_, refl, sym, ap, _∙_}
-use mathlib.Core.Bool.{true, false, _&&_}
+use mathlib.Core.Bool.{Bool, true, false, _&&_}
 use Prim.Native.Nat.{ℕ, _<_, _^_}
 use native.Mathlib.Omega.{arith}
 use borrow.Author.Needs.{sfits-of}
-use borrow.Author.Tests.{ltb-true}
-use lib.Dec.{T, leb}
+use borrow.Author.Tests.{ltb-true, eqb-true}
+use lib.Bits.{bitOr, or-add-and, and-le-l, and-le-r}
+use lib.Dec.{T, leb, eqb}
 use lib.IntN.{ℤ, pos, negsuc, natAbs}
 use lib.Signed.{mag, ltZ, nonNeg}
 use mir.Facts.{toZ-ofZ}
 use mir.Syntax.{w64}
 use mir.Val.{Fits, toZ, ofZ}
 use Rattle.tables.specs.Block.{nat}
-use Rattle.tables.specs.WellFormed.{Limits, within}
+use Rattle.tables.specs.WellFormed.{Limits, from-to, within}
+use Rattle.tables.proofs.Range.{both-true, bool-ext}
+use Rattle.tables.proofs.Limits.{within-parts}
 
 negative : (z : ℤ) → ltZ z (pos 0) ≡ true → (nat z ≡ 0) × ((l : Limits) → within l z ≡ false)
 unfolding within
@@ -28,9 +31,38 @@ within-pos : (l : Limits) (n : ℕ) → within l (pos n) ≡ leb (l .low) n && l
 unfolding within
 within-pos l n = refl
 
+within-none : (z : ℤ) → within (from-to 0 0) z ≡ true → z ≡ pos 0
+within-none z e =
+    let w = within-parts (from-to 0 0) z e in
+    let h : nat z ≡ 0 = omega (arith, w .1 .1) in
+    w .0 ∙ ap pos h
+
+-- bits of two numbers that are joined are 0 where both numbers are
+or-none : (a b : ℕ) → eqb (bitOr a b) 0 ≡ eqb a 0 && eqb b 0
+or-none a b = bool-ext (eqb (bitOr a b) 0) (eqb a 0 && eqb b 0) both joined
+  where
+    both : eqb (bitOr a b) 0 ≡ true → eqb a 0 && eqb b 0 ≡ true
+    both e =
+        let h : (a ≡ 0) × (b ≡ 0) = omega (arith, or-add-and a b, and-le-l a b, and-le-r a b, eqb-true (bitOr a b) 0 e) in
+        rw (h .0, h .1)
+
+    joined : eqb a 0 && eqb b 0 ≡ true → eqb (bitOr a b) 0 ≡ true
+    joined e = let h = both-true (eqb a 0) (eqb b 0) e in rw (eqb-true a 0 (h .0), eqb-true b 0 (h .1))
+
 module _ (z : ℤ) (g : mag z < 2 ^ 63) where
   back : toZ w64 (ofZ w64 z) ≡ z
   back = toZ-ofZ (sfits-of g)
+
+  -- the bits of a number are 0 where it is 0
+  bits-none : eqb (ofZ w64 z) 0 ≡ within (from-to 0 0) z
+  bits-none =
+      bool-ext (eqb (ofZ w64 z) 0) (within (from-to 0 0) z)
+      (λ e. let h : z ≡ pos 0 = sym back ∙ ap (toZ w64) (eqb-true (ofZ w64 z) 0 e) in rw h (within-pos (from-to 0 0) 0))
+      (λ e. rw (within-none z e))
+
+  -- and bits that its own are joined to are 0 where they were 0 before, and it is 0
+  pub joined-none : (a : ℕ) → eqb (bitOr a (ofZ w64 z)) 0 ≡ eqb a 0 && within (from-to 0 0) z
+  joined-none a = or-none a (ofZ w64 z) ∙ ap (λ (t : Bool). eqb a 0 && t) bits-none
 
   module _ (e : ltZ (toZ w64 (ofZ w64 z)) (pos 0) ≡ true) where
     pub negative-nat : nat z ≡ 0

@@ -1,4 +1,4 @@
--- What the private functions of well_formed.rt answer, row by row. Nothing here is part of the rule: proofs/Rows.antt brings it to `wellFormed`.
+-- What `zeros` of places.rt and the private functions of well_formed.rt answer, row by row. Nothing here is part of the rule: proofs/Rows.antt brings it to `wellFormed`.
 use mathlib.Core.Bool.{Bool, cond}
 use mathlib.Core.List.{List}
 use Prim.Native.Nat.{ℕ, _+_, _*_}

@@ -1,10 +1,11 @@
-// One place of a lent block. The block is signed, and above these functions all numbers are natural.
+// Places of a lent block. The block is signed, and above these functions all numbers are natural.
 ghost use mathlib.Core.Path.{_≡_};
-ghost use Prim.Native.Nat.{_<_, _^_};
+ghost use Prim.Native.Nat.{_+_, _<_, _≤_, _^_};
 ghost use lib.IntN.{pos};
 ghost use lib.ListN.{length, set};
 ghost use Rattle.tables.specs.Block.{at, figure};
 ghost use Rattle.tables.specs.WellFormed.{from-to, within};
+ghost use Rattle.tables.specs.Rows.{runWithin};
 
 // The number at place p, 0 where it is negative.
 pub fn get(b: &[i64], p: usize) -> u64
@@ -40,4 +41,18 @@ pub fn is_within(b: &[i64], p: usize, low: u64, high: u64) -> bool
         return false;
     }
     n <= high
+}
+
+// Whether `count` places from `from` on are 0. Their bits are joined, and no place ends the loop, so that several places can be read at once.
+pub fn zeros(b: &[i64], from: usize, count: usize) -> bool
+    requires { ⌜ from + count ≤ length (now b) ⌝ }
+    ensures { λ r. ⌜ r ≡ runWithin (now (b .entry)) from count (from-to 0 0) ⌝ }
+{
+    let mut joined = 0;
+    let mut k = 0;
+    while k < count {
+        joined = joined | b[from + k];
+        k += 1;
+    }
+    joined == 0
 }

@@ -45,11 +45,17 @@ pub fn well_formed(block: &[i64]) -> bool
     holds_study(block)
 }
 
-// Whether all numbers are 0.
+// Whether all numbers are 0. The first is looked at by itself: in a loaded study it is n, and the others need no look.
 pub fn fresh(block: &[i64]) -> bool
     ensures { λ r. ⌜ r ≡ fresh (now (block .entry)) ⌝ }
 {
-    run_within(block, 0, block.len(), 0, 0)
+    if block.len() == 0 {
+        return true;
+    }
+    if !places::is_within(block, 0, 0, 0) {
+        return false;
+    }
+    places::zeros(block, 0, block.len())
 }
 
 // Whether the places and the pairs are those of a loaded study.
@@ -98,7 +104,7 @@ fn row_within(b: &[i64], from: usize, width: usize, used: usize, low: u64, high:
     if !run_within(b, from, used, low, high) {
         return false;
     }
-    run_within(b, from + used, width - used, 0, 0)
+    places::zeros(b, from + used, width - used)
 }
 
 // Whether n, s, m and c0 are within their limits.
@@ -271,6 +277,9 @@ fn pair_within(b: &[i64], from: usize, k: usize, high: u64) -> bool
     requires { ⌜ (length (now b) ≡ blockLength) × (from + maxPairs * entriesOfPair ≤ blockLength) × (k < maxPairs) × (shapeRight (now b) ≡ true) ⌝ }
     ensures { λ r. ⌜ r ≡ pairWithin (now (b .entry)) from k (from-to 0 high) ⌝ }
 {
+    if k >= block::pairs(b) {
+        return places::zeros(b, from + Block::ENTRIES * k, Block::ENTRIES);
+    }
     let mut a = 0;
     while a < Block::CHOICES {
         if !row_within(

@@ -1,15 +1,28 @@
--- A number is 0 where it is from 0 to 0.
+-- A number is 0 where it is from 0 to 0. The first one is looked at before the others: where it is not 0, none of them matters.
 use borrow.Author.Needs.{needs}
 use mathlib.Core.Path.{sym, _∙_}
+use native.Mathlib.Omega.{arith}
+use Rattle.tables.proofs.Range.{refused, all-zero, all-false}
 use Rattle.tables.proofs.Rows.{fresh-run}
 use Rattle.tables.proofs.well_formed.fresh.Statement.{statement}
 use Rattle.tables.proofs.well_formed.fresh.Tie as tie
 
-run-within-requires : tie.Need-run-within-requires
-run-within-requires c κs = search needs
-
 returns : tie.Need-returns
-returns c = c .run-within .ensures ∙ sym (fresh-run (c .before .args .block .now))
+returns c = let b = c .before .args .block .now in rw (fresh-run b, c .if1 .taken) (sym (all-zero _))
+
+is-within-requires : tie.Need-is-within-requires
+is-within-requires c κs = search needs
+
+returns-2 : tie.Need-returns-2
+returns-2 c =
+    let b = c .before .before .before .args .block .now in
+    rw (fresh-run b) (sym (all-false _ _ 0 (omega arith) (refused (c .before .is-within .ensures) (c .if2 .taken))))
+
+zeros-requires : tie.Need-zeros-requires
+zeros-requires c κs = search needs
+
+returns-3 : tie.Need-returns-3
+returns-3 c = c .zeros .ensures ∙ sym (fresh-run (c .before .before .before .before .args .block .now))
 
 pub fresh-spec : {M : Type 1} → statement M
-fresh-spec = tie.close (tie.spec run-within-requires returns)
+fresh-spec = tie.close (tie.spec returns is-within-requires returns-2 zeros-requires returns-3)

@@ -1,4 +1,4 @@
--- The pair's places are a row of eight for each choice of its first train. The rows so far are right, and the first that is not ends the loop.
+-- The places of a pair that is not there are one run of unused places. Those of another are a row of eight for each choice of its first train. The rows so far are right, and the first that is not ends the loop.
 use borrow.Author.Needs.{needs}
 use mathlib.Core.Path.{_≡_, sym, _∙_}
 use mathlib.Core.Bool.{true}
@@ -8,7 +8,7 @@ use Rattle.tables.specs.Range.{all}
 use Rattle.tables.specs.Block.{maxChoices}
 use Rattle.tables.specs.WellFormed.{from-to}
 use Rattle.tables.proofs.Range.{refused, passed, all-zero, all-more, all-false}
-use Rattle.tables.proofs.Rows.{entryRow, pair-rows, entries-most}
+use Rattle.tables.proofs.Rows.{entryRow, pair-rows, pair-absent, entries-most}
 use Rattle.tables.proofs.well_formed.pair_within.Statement.{statement}
 use Rattle.tables.proofs.well_formed.pair_within.Tie as tie
 
@@ -17,6 +17,24 @@ Inv-loop b from k high a₀ a = (a ≤ maxChoices) × (all a (entryRow b from (f
 
 abbrev μ-loop : tie.MeasureT-loop
 μ-loop b from k high a₀ a = maxChoices - a
+
+pairs-requires : tie.Need-pairs-requires Inv-loop μ-loop
+pairs-requires c κs = search needs
+
+mul-zeros : tie.Need-mul-zeros Inv-loop μ-loop
+mul-zeros c = search needs
+
+add-zeros : tie.Need-add-zeros Inv-loop μ-loop
+add-zeros c = search needs
+
+zeros-requires : tie.Need-zeros-requires Inv-loop μ-loop
+zeros-requires c κs = search needs
+
+returns : tie.Need-returns Inv-loop μ-loop
+returns c =
+    let p = c .before .before in
+    let a = p .before .args in
+    c .zeros .ensures ∙ sym (pair-absent (a .b .now) (a .from) (from-to 0 (a .high)) (a .k) (omega (arith, p .pairs .ensures, c .before .if1 .taken)))
 
 loop-holds : tie.Need-loop-holds Inv-loop μ-loop
 loop-holds c = (omega arith, all-zero _)
@@ -39,20 +57,20 @@ entries-used-requires c κs = search needs
 row-within-requires : tie.Need-row-within-requires Inv-loop μ-loop
 row-within-requires c κs =
     let l = c .before .before in
-    let s = l .before in
+    let s = l .before .before .before in
     omega (arith, entries-most (s .args .b .now) (s .pre .3) (s .args .k) (l .loop .a) (s .pre .2))
 
 -- the call answers for row a
 row : (c : tie.After-row-within Inv-loop μ-loop)
     → c .row-within .result
-    ≡ entryRow (c .before .before .before .before .args .b .now) (c .before .before .before .before .args .from) (from-to 0 (c .before .before .before .before .args .high)) (c .before .before .before .before .args .k) (c .before .before .before .loop .a)
+    ≡ entryRow (c .before .before .before .before .before .before .args .b .now) (c .before .before .before .before .before .before .args .from) (from-to 0 (c .before .before .before .before .before .before .args .high)) (c .before .before .before .before .before .before .args .k) (c .before .before .before .loop .a)
 row c = rw (c .before .entries-used .ensures) at (c .row-within .ensures)
 
-returns : tie.Need-returns Inv-loop μ-loop
-returns c =
+returns-2 : tie.Need-returns-2 Inv-loop μ-loop
+returns-2 c =
     let l = c .before .before .before .before in
-    let a = l .before .args in
-    sym (pair-rows (a .b .now) (a .from) (from-to 0 (a .high)) (a .k) ∙ all-false _ _ (l .loop .a) (omega arith) (refused (row (c .before)) (c .if1 .taken)))
+    let a = l .before .before .before .args in
+    sym (pair-rows (a .b .now) (a .from) (from-to 0 (a .high)) (a .k) ∙ all-false _ _ (l .loop .a) (omega arith) (refused (row (c .before)) (c .if2 .taken)))
 
 add-a : tie.Need-add-a Inv-loop μ-loop
 add-a c = search needs
@@ -61,12 +79,12 @@ loop-less : tie.Need-loop-less Inv-loop μ-loop
 loop-less c = search needs
 
 loop-again : tie.Need-loop-again Inv-loop μ-loop
-loop-again c = (omega arith, all-more _ _ (c .before .before .before .before .loop .inv .1) (passed (row (c .before)) (c .if1 .left)))
+loop-again c = (omega arith, all-more _ _ (c .before .before .before .before .loop .inv .1) (passed (row (c .before)) (c .if2 .left)))
 
-returns-2 : tie.Need-returns-2 Inv-loop μ-loop
-returns-2 c =
+returns-3 : tie.Need-returns-3 Inv-loop μ-loop
+returns-3 c =
     let l = c .before .loop in
-    let a = c .before .before .args in
+    let a = c .before .before .before .before .args in
     let e : l .a ≡ maxChoices = omega arith in
     sym (pair-rows (a .b .now) (a .from) (from-to 0 (a .high)) (a .k) ∙ (rw e at (l .inv .1)))
 
@@ -76,6 +94,11 @@ pair-within-spec =
     (tie.spec
     Inv-loop
     μ-loop
+    pairs-requires
+    mul-zeros
+    add-zeros
+    zeros-requires
+    returns
     loop-holds
     mul-row-within
     mul-row-within-2
@@ -83,8 +106,8 @@ pair-within-spec =
     add-row-within-2
     entries-used-requires
     row-within-requires
-    returns
+    returns-2
     add-a
     loop-less
     loop-again
-    returns-2)
+    returns-3)

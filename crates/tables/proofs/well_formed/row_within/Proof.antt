@@ -15,14 +15,14 @@ returns c =
     let a = s .args in
     rw (row-split (a .b .now) (a .from) (a .width) (a .used) (from-to (a .low) (a .high)) (s .pre .1), ← c .before .run-within .ensures, not-true (c .before .run-within .result) (c .if1 .taken))
 
-add-run-within : tie.Need-add-run-within
-add-run-within c = search needs
+add-zeros : tie.Need-add-zeros
+add-zeros c = search needs
 
-sub-run-within : tie.Need-sub-run-within
-sub-run-within c = search needs
+sub-zeros : tie.Need-sub-zeros
+sub-zeros c = search needs
 
-run-within-requires-2 : tie.Need-run-within-requires-2
-run-within-requires-2 c κs = search needs
+zeros-requires : tie.Need-zeros-requires
+zeros-requires c κs = search needs
 
 returns-2 : tie.Need-returns-2
 returns-2 c =
@@ -30,7 +30,7 @@ returns-2 c =
     let s = d .before .before in
     let a = s .args in
     rw (row-split (a .b .now) (a .from) (a .width) (a .used) (from-to (a .low) (a .high)) (s .pre .1), ← d .before .run-within .ensures, not-false (d .before .run-within .result) (d .if1 .left))
-    (c .run-within2 .ensures)
+    (c .zeros .ensures)
 
 pub row-within-spec : {M : Type 1} → statement M
 row-within-spec =
@@ -38,7 +38,7 @@ row-within-spec =
     (tie.spec
     run-within-requires
     returns
-    add-run-within
-    sub-run-within
-    run-within-requires-2
+    add-zeros
+    sub-zeros
+    zeros-requires
     returns-2)
