@@ -3,12 +3,12 @@ use mathlib.Core.Path.{_≡_, refl, sym, ap, _∙_}
 use mathlib.Core.Bool.{Bool, true, false, cond, _&&_, not}
 use mathlib.Core.List.{List}
 use mathlib.Core.Logic.{_⊎_, inl, inr}
-use Prim.Native.Nat.{ℕ, _+_, _*_, _-_, _/_, _%_, _<_, _≤_}
+use Prim.Native.Nat.{ℕ, _+_, _*_, _-_, _/_, _%_, _<_, _≤_, max}
 use native.Mathlib.Omega.{arith}
 use lib.Dec.{leb, ltb, eqb}
 use lib.ListN.{length, getD}
-use borrow.Author.Tests.{ltb-false, leb-true, le-leb, lt-leb, eqb-true, eqb-false, not-true}
-use Rattle.tables.proofs.Range.{both-true, all-true, pass-all}
+use borrow.Author.Tests.{lt-ltb, ltb-true, ltb-false, leb-true, le-leb, lt-leb, ne-eqb, eqb-true, eqb-false, not-true}
+use Rattle.tables.proofs.Range.{both-true, bool-ext, all-true, pass-all}
 use Rattle.tables.specs.Range.{all}
 use Rattle.lines.specs.Digits.{noDigit, digit, byteAt, bytes}
 use Rattle.lines.specs.Frames.{maxCharacters, isDigit, allDigits, framed, newFrame, Framed}
@@ -45,6 +45,20 @@ pub byte-most : (l : List ℕ) (i : ℕ) → byteAt l i ≤ 272
 unfolding byteAt
 byte-most l i = omega (arith, digit-most (getD l (2 * i) 0), digit-most (getD l (2 * i + 1) 0))
 
+-- a value is below `noDigit` where the character is a digit
+pub digit-below : (c : ℕ) → ltb (digit c) noDigit ≡ isDigit c
+digit-below c =
+    bool-ext (ltb (digit c) noDigit) (isDigit c)
+    (λ e. let h = ltb-true (digit c) noDigit e in rw (ne-eqb (digit c) noDigit (omega arith)))
+    (λ e. let h = eqb-false (digit c) noDigit (not-true (eqb (digit c) noDigit) e) in lt-ltb (digit c) noDigit (omega (arith, digit-most c)))
+
+-- the higher of two numbers is below a third where both are
+pub both-below : (a b n : ℕ) → ltb (max a b) n ≡ ltb a n && ltb b n
+both-below a b n =
+    bool-ext (ltb (max a b) n) (ltb a n && ltb b n)
+    (λ e. let h = ltb-true (max a b) n e in rw (lt-ltb a n (omega arith), lt-ltb b n (omega arith)))
+    (λ e. let h = both-true (ltb a n) (ltb b n) e in lt-ltb (max a b) n (omega (arith, ltb-true a n (h .0), ltb-true b n (h .1))))
+
 -- ---- lines of digits
 
 pub all-digits : (l : List ℕ) → allDigits l ≡ all (length l) (λ k. isDigit (getD l k 0))
@@ -67,14 +81,11 @@ framed-whole l e =
     record {
       even = omega arith;
       some = at-least-one (length l) some even;
-      digits = λ i h. below-none (getD l i 0) (all-true (λ k. isDigit (getD l k 0)) (length l) (sym (all-digits l) ∙ g .1) i h);
+      digits = λ i h. ltb-true (digit (getD l i 0)) noDigit (digit-below (getD l i 0) ∙ all-true (λ k. isDigit (getD l k 0)) (length l) (sym (all-digits l) ∙ g .1) i h);
     }
   where
     at-least-one : (n : ℕ) → (n ≡ 0 → ⊥) → n % 2 ≡ 0 → 1 ≤ n / 2
     at-least-one n z e = omega arith
-
-    below-none : (c : ℕ) → isDigit c ≡ true → digit c < noDigit
-    below-none c h = let z = eqb-false (digit c) noDigit (not-true (eqb (digit c) noDigit) h) in omega (arith, digit-most c, z)
 
 pub byte-below : {l : List ℕ} → Whole l → (i : ℕ) → i < bytes l → byteAt l i < 256
 unfolding byteAt

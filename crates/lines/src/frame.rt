@@ -43,16 +43,18 @@ impl Frame {
     }
 }
 
-// Whether every character is a digit.
+// Whether every character is a digit: the highest value is that of one. No character ends the loop, so that several can be read at once.
 fn all_digits(line: &[u8]) -> bool
     ensures { λ r. ⌜ r ≡ allDigits (now (line .entry)) ⌝ }
 {
+    let mut highest = 0;
     let mut i = 0;
     while i < line.len() {
-        if digits::value(line[i]) == digits::NO_DIGIT {
-            return false;
+        let v = digits::value(line[i]);
+        if highest < v {
+            highest = v;
         }
         i += 1;
     }
-    true
+    highest < digits::NO_DIGIT
 }
