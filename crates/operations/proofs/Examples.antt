@@ -1,94 +1,53 @@
--- Document 01's study J, loaded, tightened, shifted and added to: one table, and one statement over all of it, which the checker computes.
+-- Additions to document 01's study J, loaded: one table, and one statement over all of it, which the checker computes.
 use mathlib.Core.Bool.{Bool, true, _&&_}
 use mathlib.Core.List.{List, [], _∷_}
 use Prim.Native.Nat.{ℕ}
 use lib.Dec.{T, eqb}
-use lib.IntN.{ℤ, pos, negsuc}
+use lib.IntN.{ℤ}
 use Rattle.tables.specs.Sum.{sum}
-use Rattle.tables.specs.Range.{all, pass}
-use Rattle.tables.specs.Block.{figure, constantPlace, loadedChoicePlace, heldChoicePlace, heldEntryPlace}
+use Rattle.tables.specs.Block.{figure, loadedChoicePlace, heldChoicePlace}
 use Rattle.tables.specs.Numbers.{numbers}
-use Rattle.tables.specs.WellFormed.{within, choiceUsed, entryUsed, headLimits, shapeLimits, costLimits, limitsAt, placesRight, before, follows, pairRight, pairsRight, holdsStudy}
-use Rattle.operations.specs.Fold.{iter, least}
+use Rattle.operations.specs.Fold.{iter}
 use Rattle.operations.specs.Outcome.{outcomeNumber}
-use Rattle.operations.specs.Moves.{moveRun}
-use Rattle.operations.specs.Shift.{pairShifted, shifted, shiftOutcome, shiftBlock}
-use Rattle.operations.specs.Tighten.{runLeast, runTightened, pairTightened, tightened, tightenOutcome, tightenBlock}
 use Rattle.operations.specs.Add.{added, addOutcome, addBlock}
 use Rattle.operations.specs.Load.{loadedBlock}
 
 -- 'J is the first line above, loaded': two trains of two choices, one pair
-pub study : List ℤ
-unfolding loadedBlock
+unfoldable pub study : List ℤ
 study = loadedBlock (numbers 1 (2 ∷ 2 ∷ []) (2 ∷ 0 ∷ 0 ∷ 0 ∷ []) (0 ∷ []) (1 ∷ []) (1 ∷ 0 ∷ 3 ∷ 2 ∷ []))
-
-pub data Operation : Type 0 where
-  Tighten : Operation
-  Shift : List ℤ → List ℤ → Operation
-  Add : ℕ → ℕ → ℕ → Operation
-
--- document 01's number of what an operation on J answers
-number : Operation → ℕ
-number Tighten = outcomeNumber (tightenOutcome study)
-number (Shift lifts moves) = outcomeNumber (shiftOutcome lifts moves study)
-number (Add i a p) = outcomeNumber (addOutcome i a p study)
-
--- and the block that it leaves
-block : Operation → List ℤ
-block Tighten = tightenBlock study
-block (Shift lifts moves) = shiftBlock lifts moves study
-block (Add i a p) = addBlock i a p study
 
 -- what stands at a place afterwards
 pub record Left : Type 0 where
   pub place : ℕ
   pub holds : ℕ
 
-at-place : ℕ → ℕ → Left
+unfoldable pub at-place : ℕ → ℕ → Left
 at-place p v = record { place = p; holds = v }
 
-pub record Case : Type 0 where
-  pub operation : Operation
-  pub answers : ℕ
-  pub leaves : List Left
-
-leftRight : List ℤ → List Left → Bool
+unfoldable pub leftRight : List ℤ → List Left → Bool
 leftRight b [] = true
 leftRight b (l ∷ ls) = eqb (figure b (l .place)) (l .holds) && leftRight b ls
 
+-- an addition to J, document 01's number of what it answers, and what it leaves
+pub record Case : Type 0 where
+  pub train : ℕ
+  pub choice : ℕ
+  pub points : ℕ
+  pub answers : ℕ
+  pub leaves : List Left
+
 pub right : List Case → Bool
 right [] = true
-right (c ∷ cs) = (eqb (number (c .operation)) (c .answers) && leftRight (block (c .operation)) (c .leaves)) && right cs
+right (c ∷ cs) =
+    (eqb (outcomeNumber (addOutcome (c .train) (c .choice) (c .points) study)) (c .answers) && leftRight (addBlock (c .train) (c .choice) (c .points) study) (c .leaves)) && right cs
 
 pub table : List Case
 table =
-    -- J tightened: c0 = 2; the first train's choices are 0 and 0, the second's 1 and 0; no entry is left
-    record {
-      operation = Tighten;
-      answers = 0;
-      leaves =
-          at-place constantPlace 2 ∷ at-place (heldChoicePlace 0 0) 0 ∷ at-place (heldChoicePlace 0 1) 0 ∷ at-place (heldChoicePlace 1 0) 1 ∷ at-place (heldChoicePlace 1 1) 0
-          ∷ at-place (heldEntryPlace 0 0 0) 0 ∷ at-place (heldEntryPlace 0 0 1) 0 ∷ at-place (heldEntryPlace 0 1 0) 0 ∷ at-place (heldEntryPlace 0 1 1) 0 ∷ [];
-    }
-    -- marked case 9: 'u_0 = 2 with move 2 on train 0 choice 1, rest 0: accepted, c0 = 2'
-    ∷ record {
-      operation = Shift (pos 2 ∷ pos 0 ∷ []) (pos 0 ∷ pos 2 ∷ pos 0 ∷ pos 0 ∷ []);
-      answers = 0;
-      leaves = at-place constantPlace 2 ∷ at-place (heldChoicePlace 0 0) 0 ∷ at-place (heldChoicePlace 0 1) 0 ∷ at-place (heldEntryPlace 0 1 0) 1 ∷ at-place (heldEntryPlace 0 1 1) 0 ∷ [];
-    }
-    -- marked case 10: 'the same without the move: 12'
-    ∷ record { operation = Shift (pos 2 ∷ pos 0 ∷ []) (pos 0 ∷ pos 0 ∷ pos 0 ∷ pos 0 ∷ []); answers = 12; leaves = at-place constantPlace 0 ∷ at-place (heldChoicePlace 0 0) 2 ∷ [] }
-    -- a move below 0: the first train gives 1 back to the row
-    ∷ record {
-      operation = Shift (pos 0 ∷ pos 0 ∷ []) (negsuc 0 ∷ pos 0 ∷ pos 0 ∷ pos 0 ∷ []);
-      answers = 0;
-      leaves = at-place constantPlace 0 ∷ at-place (heldChoicePlace 0 0) 1 ∷ at-place (heldEntryPlace 0 0 0) 2 ∷ at-place (heldEntryPlace 0 0 1) 1 ∷ [];
-    }
     -- points added to choice 0 of train 0; 1,000,000 of them pass the limit: 10
-    ∷ record { operation = Add 0 0 5; answers = 0; leaves = at-place (loadedChoicePlace 0 0) 7 ∷ at-place (heldChoicePlace 0 0) 7 ∷ [] }
-    ∷ record { operation = Add 0 0 1000000; answers = 10; leaves = at-place (loadedChoicePlace 0 0) 2 ∷ at-place (heldChoicePlace 0 0) 2 ∷ [] }
+    record { train = 0; choice = 0; points = 5; answers = 0; leaves = at-place (loadedChoicePlace 0 0) 7 ∷ at-place (heldChoicePlace 0 0) 7 ∷ [] }
+    ∷ record { train = 0; choice = 0; points = 1000000; answers = 10; leaves = at-place (loadedChoicePlace 0 0) 2 ∷ at-place (heldChoicePlace 0 0) 2 ∷ [] }
     ∷ []
 
 pub table-right : T (right table)
-unfolding at-place sum all pass figure within choiceUsed entryUsed headLimits shapeLimits costLimits limitsAt placesRight before follows pairRight pairsRight holdsStudy iter least moveRun pairShifted shifted runLeast runTightened pairTightened tightened added loadedBlock study number block right leftRight table
+unfolding at-place sum figure iter added loadedBlock study right leftRight table
 table-right = tt

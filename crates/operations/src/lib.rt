@@ -1,7 +1,4 @@
-// The operations on the tables of a study: each works on a lent block, and a declined one leaves it as it was.
+// The operations that change the totals of a study's plans, each on a lent block, and what an operation answers: a declined one leaves the block as it was.
 pub mod add;
 pub mod load;
-mod moves;
 pub mod outcome;
-pub mod shift;
-pub mod tighten;

@@ -14,9 +14,9 @@ use Rattle.tables.specs.Block.{figure}
 use Rattle.tables.specs.WellFormed.{within, choiceUsed, entryUsed, headLimits, shapeLimits, costLimits, limitsAt, placesRight, before, follows, pairRight, pairsRight, isZero, fresh, holdsStudy, wellFormed}
 use Rattle.tables.specs.Plans.{shapeOf, heldCosts}
 use Rattle.operations.specs.Fold.{iter, least}
-use Rattle.operations.specs.Moves.{moveRun}
-use Rattle.operations.specs.Shift.{pairShifted, shifted}
-use Rattle.operations.specs.Tighten.{runLeast, runTightened, pairTightened, tightened}
+use Rattle.rewriting.specs.Moves.{moveRun}
+use Rattle.rewriting.specs.Shift.{pairShifted, shifted}
+use Rattle.rewriting.specs.Tighten.{runLeast, runTightened, pairTightened, tightened}
 use Rattle.operations.specs.Add.{added}
 use Rattle.operations.specs.Load.{loadedBlock}
 use Rattle.certificates.specs.Certify.{trainBalanced, rowBalanced, columnBalanced, pairBalanced, balanced, overChoices, overPairs, weighted}

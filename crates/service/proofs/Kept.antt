@@ -22,7 +22,7 @@ use Rattle.operations.specs.Load.{loadedBlock}
 use Rattle.operations.specs.Add.{added}
 use Rattle.operations.proofs.Loaded.{load-study, load-total, load-trains, load-scale, load-pairs, load-size, load-first, load-second, load-loaded-choice, load-loaded-entry}
 use Rattle.operations.proofs.Added.{add-same-shape, add-choice, add-choice-kept, add-entry-kept, add-loaded-total, add-loaded-total-kept, add-held-total, add-held-total-kept}
-use Rattle.operations.proofs.Reach.{Loaded}
+use Rattle.rewriting.proofs.Reach.{Loaded}
 use Rattle.service.specs.Ledger.{Ledger, numbersShape, numbersCosts, addedLedger}
 use Rattle.service.proofs.Keeps.{Keeps}
 

@@ -9,7 +9,7 @@ use lib.IntN.{ℤ}
 use Rattle.tables.specs.WellFormed.{holdsStudy}
 use Rattle.operations.specs.declared.outcome.Outcome.{Outcome}
 use Rattle.operations.specs.declared.outcome.Outcome.the-variants.{Done, CostAbove, PartsOutside}
-use Rattle.operations.specs.Outcome.{judged, judgedBlock}
+use Rattle.rewriting.specs.Outcome.{judged, judgedBlock}
 use Rattle.lines.specs.declared.request.Load.{Load}
 use Rattle.lines.specs.declared.request.Add.{Add}
 use Rattle.lines.specs.declared.request.Shift.{Shift}
@@ -20,10 +20,10 @@ use Rattle.lines.specs.Layout.{moveWidth, weightWidth}
 use Rattle.lines.specs.Numbers.{runOf, signedRunOf, numbersOf}
 use Rattle.operations.specs.Add.{addOutcome, addBlock}
 use Rattle.operations.specs.Load.{loadedBlock}
-use Rattle.operations.specs.Tighten.{tightenOutcome, tightenBlock}
+use Rattle.rewriting.specs.Tighten.{tightenOutcome, tightenBlock}
 use Rattle.search.specs.Answer.{searchAnswer}
 use Rattle.tables.specs.Block.{trains}
-use Rattle.operations.specs.Shift.{shifted, shiftOutcome, shiftBlock}
+use Rattle.rewriting.specs.Shift.{shifted, shiftOutcome, shiftBlock}
 use Rattle.tables.specs.Numbers.{Numbers}
 use Rattle.service.specs.Replies.{boundReply, searchReply}
 use Rattle.certificates.specs.declared.certify.Certificate.{Certificate}

@@ -45,7 +45,7 @@ use Rattle.lines.proofs.LoadRange.{load-in-range}
 use Rattle.lines.proofs.Runs.{list-length, list-nth, list-past, entries-none, entries-length}
 use Rattle.lines.proofs.Widths.{signed-low}
 use Rattle.operations.specs.Load.{loadedBlock}
-use Rattle.operations.specs.Shift.{SmallMoves}
+use Rattle.rewriting.specs.Shift.{SmallMoves}
 use Rattle.operations.proofs.Loaded.{load-study}
 use Rattle.certificates.specs.Certify.{WeightsFor}
 use Rattle.service.specs.Wrote.{Asks, Adds}

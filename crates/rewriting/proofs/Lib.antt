@@ -1,0 +1,10 @@
+-- The laws of the crate, which callers cite: one file for each idea.
+pub mod Words
+pub mod Runs
+pub mod Shape
+pub mod Rooms
+pub mod Falls
+pub mod Totals
+pub mod Reach
+pub mod Ends
+pub mod Examples

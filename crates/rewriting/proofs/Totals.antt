@@ -1,0 +1,204 @@
+-- Every chain of moves keeps the total of every plan: what goes from a run meets the plan once, or not at all, and so does where it goes to.
+use mathlib.Core.Path.{_≡_, refl, sym, ap, ap₂, _∙_}
+use mathlib.Core.List.{List}
+use mathlib.Core.Logic.{_⊎_, inl, inr, ⊎-elim, _≢_}
+use Prim.Native.Nat.{ℕ, zero, suc, _+_, _<_, _≤_}
+use native.Mathlib.Decide.{ℕ-discrete}
+use native.Mathlib.Omega.{arith}
+use lib.IntN.{ℤ, pos, negℤ, _+ℤ_, +ℤ-assoc, +ℤ-comm, +ℤ-idr, +ℤ-idl, +ℤ-invr}
+use lib.ListN.{length}
+use Rattle.tables.specs.Sum.{sum}
+use Rattle.tables.specs.Block.{blockLength, maxTrains, maxChoices, constantPlace, heldEntriesFrom, heldChoicePlace, heldEntryPlace, at, nat, figure, trains, pairs, size, first, second}
+use Rattle.tables.specs.Plans.{IsPlan, choiceTotal, pairTotal, total, shapeOf, heldCosts, heldTotal}
+use Rattle.tables.specs.WellFormed.{Study}
+use Rattle.tables.proofs.Range.{below-suc}
+use Rattle.tables.proofs.Plans.{same-shape-total}
+use Rattle.rewriting.specs.Moves.{Shapely, moveRun}
+use Rattle.rewriting.specs.Tighten.{Filled}
+use Rattle.rewriting.proofs.Runs.{Met, Missed, move-to, move-met, move-other}
+use Rattle.rewriting.proofs.Shape.{study-figure, study-shapely, study-filled, Project, row, column, unary, Fair, project-fair, fair-run, Asked, Moved, none, move, moved-shape}
+
+-- ---- sums of whole numbers
+
+unfoldable pub sumℤ : ℕ → (ℕ → ℤ) → ℤ
+sumℤ zero f = pos 0
+sumℤ (suc n) f = sumℤ n f +ℤ f n
+
+pub sumℤ-cong : (n : ℕ) (f g : ℕ → ℤ) → ((i : ℕ) → i < n → f i ≡ g i) → sumℤ n f ≡ sumℤ n g
+unfolding sumℤ
+sumℤ-cong zero f g h = refl
+sumℤ-cong (suc n) f g h = ap₂ _+ℤ_ (sumℤ-cong n f g (λ i l. h i (omega arith))) (h n (omega arith))
+
+swap : (a b c : ℤ) → (a +ℤ b) +ℤ c ≡ (a +ℤ c) +ℤ b
+swap a b c = +ℤ-assoc a b c ∙ ap (λ (z : ℤ). a +ℤ z) (+ℤ-comm b c) ∙ sym (+ℤ-assoc a c b)
+
+-- one changed term
+pub sumℤ-one : (n k : ℕ) (f g : ℕ → ℤ) (δ : ℤ) → k < n → ((i : ℕ) → i < n → i ≢ k → f i ≡ g i) → f k ≡ g k +ℤ δ → sumℤ n f ≡ sumℤ n g +ℤ δ
+unfolding sumℤ
+sumℤ-one zero k f g δ h e d = absurd (omega arith)
+sumℤ-one (suc n) k f g δ h e d =
+    ⊎-elim
+    (λ (q : k ≡ n). ap₂ _+ℤ_ (sumℤ-cong n f g (λ i l. e i (omega arith) (λ r. omega arith))) (rw q at d) ∙ sym (+ℤ-assoc (sumℤ n g) (g n) δ))
+    (λ (q : k < n). ap₂ _+ℤ_ (sumℤ-one n k f g δ q (λ i l. e i (omega arith)) d) (e n (omega arith) (λ r. omega arith)) ∙ swap (sumℤ n g) δ (g n))
+    (below-suc k n h)
+
+pub sumℤ-pos : (n : ℕ) (f : ℕ → ℤ) (g : ℕ → ℕ) → ((i : ℕ) → i < n → f i ≡ pos (g i)) → sumℤ n f ≡ pos (sum n g)
+unfolding sumℤ sum
+sumℤ-pos zero f g h = refl
+sumℤ-pos (suc n) f g h = ap₂ _+ℤ_ (sumℤ-pos n f g (λ i l. h i (omega arith))) (h n (omega arith))
+
+-- a is p, changed by δ
+pub record Changed (a p δ : ℤ) : Type 0 where
+  pub by : a ≡ p +ℤ δ
+
+unchanged : {a p : ℤ} → a ≡ p → Changed a p (pos 0)
+unchanged {p = p} e = record { by = e ∙ sym (+ℤ-idr p) }
+
+-- three parts whose changes cancel
+parts-kept : {a b c p q r d e f : ℤ} → Changed a p d → Changed b q e → Changed c r f → (d +ℤ e) +ℤ f ≡ pos 0 → (a +ℤ b) +ℤ c ≡ (p +ℤ q) +ℤ r
+parts-kept {p = p} {q} {r} {d} {e} {f} x y z w =
+    rw (x .by, y .by, z .by)
+    (ap (λ (t : ℤ). t +ℤ (r +ℤ f)) (pair p d q e) ∙ pair (p +ℤ q) (d +ℤ e) r f ∙ ap (λ (t : ℤ). ((p +ℤ q) +ℤ r) +ℤ t) w ∙ +ℤ-idr ((p +ℤ q) +ℤ r))
+  where
+    pair : (p d q e : ℤ) → (p +ℤ d) +ℤ (q +ℤ e) ≡ (p +ℤ q) +ℤ (d +ℤ e)
+    pair p d q e = sym (+ℤ-assoc (p +ℤ d) q e) ∙ ap (λ (t : ℤ). t +ℤ e) (swap p d q) ∙ +ℤ-assoc (p +ℤ q) d e
+
+-- ---- a plan's total over whole numbers, by the shape of b and the costs of c
+
+module _ (b : List ℤ) (x : ℕ → ℕ) where
+  abbrev pub paidChoice : List ℤ → ℕ → ℤ
+  paidChoice c i = at c (heldChoicePlace i (x i))
+
+  abbrev pub paidPair : List ℤ → ℕ → ℤ
+  paidPair c k = at c (heldEntryPlace k (x (first b k)) (x (second b k)))
+
+  unfoldable pub paid : List ℤ → ℤ
+  paid c = at c constantPlace +ℤ sumℤ (trains b) (paidChoice c) +ℤ sumℤ (pairs b) (paidPair c)
+
+  -- where all numbers are natural, it is the plan's total
+  pub paid-natural : (c : List ℤ) → ((p : ℕ) → at c p ≡ pos (figure c p)) → paid c ≡ pos (total (shapeOf b) (heldCosts c) x)
+  unfolding paid total choiceTotal pairTotal shapeOf heldCosts
+  paid-natural c h =
+      ap₂ _+ℤ_ (ap₂ _+ℤ_ (h constantPlace) (sumℤ-pos (trains b) (paidChoice c) _ (λ i l. h (heldChoicePlace i (x i)))))
+      (sumℤ-pos (pairs b) (paidPair c) _ (λ k l. h (heldEntryPlace k (x (first b k)) (x (second b k)))))
+
+-- ---- one move
+
+-- a plan by its choices, of a block within its ranges
+pub record Taken (b : List ℤ) (x : ℕ → ℕ) : Type 0 where
+  pub shapely : Shapely b
+  pub filled : Filled b
+  pub plan : (i : ℕ) → i < trains b → x i < size b i
+
+-- each choice is one of eight
+module _ {b : List ℤ} {x : ℕ → ℕ} (t : Taken b x) where
+  taken-small : (i : ℕ) → i < trains b → (i < maxTrains) × (x i < maxChoices)
+  taken-small i h = omega (arith, t .plan i h, t .shapely .trains, t .shapely .sizes i (omega (arith, t .shapely .trains)))
+
+  taken-pair : (l : ℕ) → l < pairs b → (x (first b l) < maxChoices) × (x (second b l) < maxChoices)
+  taken-pair l h = (taken-small (first b l) (t .filled .firsts l h) .1, taken-small (second b l) (t .filled .seconds l h) .1)
+
+module _ {b : List ℤ} {x : ℕ → ℕ} (w : Taken b x) (c : List ℤ) (len : length c ≡ blockLength) (α : ℤ) where
+  -- from entries of pair k, which the plan meets where it takes choice a of train t, to that choice
+  pair-move : (k t a from step count : ℕ) → Fair from step count (heldChoicePlace t a) → k < pairs b → t < trains b → a < maxChoices → heldEntriesFrom ≤ from
+      → (x t ≡ a → Met from step count (heldEntryPlace k (x (first b k)) (x (second b k))))
+      → ((l : ℕ) → l < pairs b → (l ≢ k) ⊎ (x t ≢ a) → Missed from step count (heldEntryPlace l (x (first b l)) (x (second b l))))
+      → paid b x (moveRun from step count (heldChoicePlace t a) α c) ≡ paid b x c
+  unfolding paid
+  pair-move k t a from step count f hk ht ha low hit miss = by (ℕ-discrete (x t) a)
+    where
+      off : (p : ℕ) → p ≢ heldChoicePlace t a → Missed from step count p → at (moveRun from step count (heldChoicePlace t a) α c) p ≡ at c p
+      off p n m = move-other from step count (heldChoicePlace t a) α c p n m
+
+      -- the constant and the other choices stay, and so do the pairs that are missed
+      constant : at (moveRun from step count (heldChoicePlace t a) α c) constantPlace ≡ at c constantPlace
+      constant = off constantPlace (λ e. omega arith) (λ i l e. omega arith)
+
+      choice : (i : ℕ) → i < trains b → (i ≢ t) ⊎ (x t ≢ a) → paidChoice b x (moveRun from step count (heldChoicePlace t a) α c) i ≡ paidChoice b x c i
+      choice i h d =
+          let q = taken-small w i h in
+          off (heldChoicePlace i (x i))
+          (λ e. let g : i ≡ t = omega arith in ⊎-elim (λ (n : i ≢ t). n g) (λ (n : x t ≢ a). n (sym (ap x g) ∙ (omega arith))) d)
+          (λ j l e. omega arith)
+
+      pair : (l : ℕ) → l < pairs b → (l ≢ k) ⊎ (x t ≢ a) → paidPair b x (moveRun from step count (heldChoicePlace t a) α c) l ≡ paidPair b x c l
+      pair l h d =
+          let q = taken-pair w l h in
+          let g = taken-small w t ht in
+          off (heldEntryPlace l (x (first b l)) (x (second b l))) (λ e. omega arith) (miss l h d)
+
+      by : Dec (x t ≡ a) → paid b x (moveRun from step count (heldChoicePlace t a) α c) ≡ paid b x c
+      by (yes e) =
+          let there : heldChoicePlace t a < length c = omega (arith, f .there) in
+          parts-kept (unchanged constant)
+          (record {
+            by = sumℤ-one (trains b) t _ _ α ht (λ i h n. choice i h (inl n))
+                (move-to from step count (heldChoicePlace t a) α c (f .apart) (fair-run c len f) there (f .missed) (heldChoicePlace t (x t)) (ap (heldChoicePlace t) e));
+          })
+          (record {
+            by = sumℤ-one (pairs b) k _ _ (negℤ α) hk (λ l h n. pair l h (inl n))
+                (move-met from step count (heldChoicePlace t a) α c (f .apart) (fair-run c len f) there (f .missed) _ (hit e));
+          })
+          (ap (λ (z : ℤ). z +ℤ negℤ α) (+ℤ-idl α) ∙ +ℤ-invr α)
+      by (no n) =
+          parts-kept (unchanged constant) (unchanged (sumℤ-cong (trains b) _ _ (λ i h. choice i h (inr n))))
+          (unchanged (sumℤ-cong (pairs b) _ _ (λ l h. pair l h (inr n)))) refl
+
+  -- from every choice of train t, of which the plan takes one, to the constant
+  train-move : (t : ℕ) → t < trains b → paid b x (moveRun (heldChoicePlace t 0) 1 (size b t) constantPlace α c) ≡ paid b x c
+  unfolding paid
+  train-move t ht =
+      let f = project-fair (w .shapely) (unary t ht) in
+      let d = w .shapely .sizes t (taken-small w t ht .0) in
+      let there : constantPlace < length c = omega arith in
+      parts-kept {p = at c constantPlace} {q = sumℤ (trains b) (paidChoice b x c)} {d = α} {e = negℤ α}
+      (record { by = move-to (heldChoicePlace t 0) 1 (size b t) constantPlace α c (f .apart) (fair-run c len f) there (f .missed) constantPlace refl })
+      (record {
+        by = sumℤ-one (trains b) t _ _ (negℤ α) ht
+            (λ i h n. let q = taken-small w i h in move-other (heldChoicePlace t 0) 1 (size b t) constantPlace α c _ (λ e. omega arith) (λ j l e. n (omega arith)))
+            (move-met (heldChoicePlace t 0) 1 (size b t) constantPlace α c (f .apart) (fair-run c len f) there (f .missed) _
+            (record { turn = x t; below = w .plan t ht; is = omega arith }));
+      })
+      (unchanged (sumℤ-cong (pairs b) _ _ (λ l h. move-other (heldChoicePlace t 0) 1 (size b t) constantPlace α c _ (λ e. omega arith) (λ i q e. omega (arith, d, taken-small w t ht)))))
+      (ap (λ (z : ℤ). z +ℤ pos 0) (+ℤ-invr α))
+
+  -- every move of Algorithm 1
+  pub project-total : {from step count to : ℕ} → Project b from step count to → paid b x (moveRun from step count to α c) ≡ paid b x c
+  project-total (row k a h q) =
+      let t = first b k in
+      let ht = w .filled .firsts k h in
+      let d = w .shapely .sizes t (taken-small w t ht .0) in
+      let g = w .shapely .sizes (second b k) (taken-small w (second b k) (w .filled .seconds k h) .0) in
+      pair-move k t a (heldEntryPlace k a 0) 1 (size b (second b k)) (project-fair (w .shapely) (row k a h q)) h ht (omega arith) (omega arith)
+      (λ e. record { turn = x (second b k); below = w .plan (second b k) (w .filled .seconds k h); is = omega arith })
+      (λ l hl n i r e. let z = taken-pair w l hl in let j : l ≡ k = omega arith in
+      ⊎-elim (λ (m : l ≢ k). m j) (λ (m : x t ≢ a). m (ap (λ (y : ℕ). x (first b y)) (sym j) ∙ (omega arith))) n)
+  project-total (column k a h q) =
+      let t = second b k in
+      let ht = w .filled .seconds k h in
+      let d = w .shapely .sizes t (taken-small w t ht .0) in
+      let g = w .shapely .sizes (first b k) (taken-small w (first b k) (w .filled .firsts k h) .0) in
+      pair-move k t a (heldEntryPlace k 0 a) maxChoices (size b (first b k)) (project-fair (w .shapely) (column k a h q)) h ht (omega arith) (omega arith)
+      (λ e. record { turn = x (first b k); below = w .plan (first b k) (w .filled .firsts k h); is = omega arith })
+      (λ l hl n i r e. let z = taken-pair w l hl in let j : l ≡ k = omega arith in
+      ⊎-elim (λ (m : l ≢ k). m j) (λ (m : x t ≢ a). m (ap (λ (y : ℕ). x (second b y)) (sym j) ∙ (omega arith))) n)
+  project-total (unary i h) = train-move i h
+
+-- ---- chains of moves
+
+pub moved-total : {R : Asked} {b : List ℤ} {x : ℕ → ℕ} → Taken b x → {n : ℕ} {c : List ℤ} → Moved R b n c → paid b x c ≡ paid b x b
+moved-total w none = refl
+moved-total w (move {c = c} α l p r v) =
+    project-total w c (moved-shape (w .shapely) v .whole ∙ w .shapely .whole) α p ∙ moved-total w v
+
+pos-same : (m n : ℕ) → pos m ≡ pos n → m ≡ n
+pos-same m n e = ap nat e
+
+-- a chain that begins at a study and ends where every number is natural keeps every plan's total
+pub moved-keeps-total : {R : Asked} {b c : List ℤ} {n : ℕ} → Study b → Moved R b n c → ((p : ℕ) → at c p ≡ pos (figure c p))
+    → (x : ℕ → ℕ) → IsPlan (shapeOf b) x → heldTotal c x ≡ heldTotal b x
+unfolding IsPlan shapeOf
+moved-keeps-total {b = b} {c} s v natural x p =
+    let w : Taken b x = record { shapely = study-shapely s; filled = study-filled s; plan = p } in
+    same-shape-total (moved-shape (study-shapely s) v) s (heldCosts c) x
+    ∙ pos-same _ _ (sym (paid-natural b x c natural) ∙ moved-total w v ∙ paid-natural b x b (λ q. study-figure s q .0))

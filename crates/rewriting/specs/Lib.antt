@@ -1,0 +1,4 @@
+pub mod Outcome
+pub mod Moves
+pub mod Shift
+pub mod Tighten
