@@ -11,7 +11,7 @@ use Rattle.lines.specs.Digits.{bytes}
 use Rattle.lines.specs.Fields.{field, signedField}
 use Rattle.lines.specs.Layout.{costWidth, moveWidth, weightWidth, budgetWidth, addTrain, addChoice, addPoints, liftsAt, movesAt, certifyWhole, weightsAt, searchBudget, pairAt, loadPairs}
 use Rattle.tables.specs.Ranges.{maxMove, maxWhole, maxBudget}
-use Rattle.lines.specs.Reading.{Sized, then, fieldVerdict, runVerdict, endVerdict, headVerdict, sizesVerdict, choicesVerdict, pairCountVerdict, pairVerdict, pairsVerdict, restVerdict, loadVerdict, addVerdict, shiftVerdict, tightenVerdict, certifyVerdict, searchVerdict}
+use Rattle.lines.specs.Reading.{Sized, then, fieldVerdict, runVerdict, endVerdict, headVerdict, sizesVerdict, choicesVerdict, pairCountVerdict, pairVerdict, pairsVerdict, restVerdict, loadVerdict, addVerdict, shiftVerdict, certifyVerdict, searchVerdict}
 use borrow.Author.Tests.{leb-true}
 use Rattle.lines.proofs.Judged.{then-fine, first-fine, field-within, run-fine, between, end-fine}
 use Rattle.lines.proofs.LoadFields.{sized, FinePair, pair-fine}
@@ -88,11 +88,6 @@ shift-fine l n moves e =
       move = λ k h. leb-true _ _ (run-fine l (movesAt n) moveWidth (Around maxMove) Move moves (g .0) k h .right);
       ends = sym (end-fine (bytes l) (movesAt n + moveWidth * moves) (g .1));
     }
-
--- ---- 04 tighten
-
-pub tighten-fine : (l : List ℕ) → tightenVerdict l ≡ Fine → bytes l ≡ 1
-tighten-fine l e = sym (end-fine (bytes l) 1 e)
 
 -- ---- 05 certify
 

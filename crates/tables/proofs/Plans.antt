@@ -9,7 +9,7 @@ use Rattle.tables.specs.Block.{trains, pairs, size, first, second}
 use Rattle.tables.specs.WellFormed.{Study}
 use Rattle.tables.specs.Plans.{Shape, Costs, IsPlan, choiceTotal, pairTotal, total, shapeOf}
 use Rattle.tables.proofs.Sum.{sum-cong, sum-term}
-use Rattle.tables.proofs.Study.{trains-range, pairs-range, size-range, first-below-second, second-below-trains, pairs-apart, SameShape, same-trains, same-pairs, same-size, same-first, same-second}
+use Rattle.tables.proofs.Study.{pairs-range, size-range, first-below-second, second-below-trains, pairs-apart, SameShape, same-trains, same-pairs, same-first, same-second}
 
 -- each train has a choice; a pair's trains ascend and are there; no two pairs are alike
 pub record Shaped (s : Shape) : Type 0 where
@@ -64,12 +64,6 @@ pair-at-most-total s t x k h = omega (arith, sum-term (s .pairs) k (λ l. t .pai
 -- ---- blocks of the same shape
 
 module _ {b c : List ℤ} (e : SameShape b c) (s : Study b) where
-  pub same-plans : (x : ℕ → ℕ) → IsPlan (shapeOf b) x → IsPlan (shapeOf c) x
-  unfolding IsPlan shapeOf
-  same-plans x p i h =
-      let q : i < trains b = omega (arith, same-trains e) in
-      omega (arith, p i q, same-size e i (omega (arith, trains-range s)))
-
   pub same-shape-total : (t : Costs) (x : ℕ → ℕ) → total (shapeOf c) t x ≡ total (shapeOf b) t x
   unfolding total choiceTotal pairTotal shapeOf
   same-shape-total t x =
