@@ -35,8 +35,9 @@ use Rattle.certificates.specs.declared.certify.Certificate.{Certificate}
 use Rattle.certificates.specs.declared.certify.Certificate.the-variants.{Unbalanced, Balanced}
 use Rattle.certificates.specs.Certify.{weightsOf, certificate}
 use Rattle.search.specs.Answer.{searchAnswer}
-use Rattle.service.specs.Replies.{refusalByte, refusalReply}
-use Rattle.service.specs.Answer.{Answer, answered, declined, operated, certified, requested, lineAnswer, answer, minBuffer, written}
+use Rattle.replies.specs.Replies.{refusalByte, refusalReply}
+use Rattle.replies.specs.Wrote.{minBuffer, written}
+use Rattle.service.specs.Answer.{Answer, answered, declined, operated, certified, requested, lineAnswer, answer}
 use Rattle.service.specs.Ledger.{accepted}
 use Rattle.service.proofs.Lines.{clash}
 use Rattle.service.proofs.ReadBack.{bound-accepted, certify-accepted, search-accepted}

@@ -30,12 +30,13 @@ use Rattle.certificates.specs.declared.certify.Certificate.{Certificate}
 use Rattle.certificates.specs.declared.certify.Certificate.the-variants.{Unbalanced, Balanced}
 use Rattle.certificates.specs.Certify.{weightsOf, certificate}
 use Rattle.search.specs.Answer.{searchAnswer}
-use Rattle.service.specs.Replies.{refusalReply}
-use Rattle.service.specs.Answer.{answered, declined, operated, certified, requested, lineAnswer, answer, minBuffer}
-use Rattle.service.specs.Wrote.{Wrote, Answers, Asks}
+use Rattle.replies.specs.Replies.{refusalReply}
+use Rattle.replies.specs.Wrote.{minBuffer, Wrote}
+use Rattle.replies.proofs.Writing.{wrote-none}
+use Rattle.replies.proofs.ReplyFields.{bound-length, certify-length, search-length}
+use Rattle.service.specs.Answer.{answered, declined, operated, certified, requested, lineAnswer, answer}
+use Rattle.service.specs.Wrote.{Answers, Asks}
 use Rattle.service.proofs.Answers.{refusal-length}
-use Rattle.service.proofs.Writing.{wrote-none}
-use Rattle.service.proofs.ReplyFields.{bound-length, certify-length, search-length}
 use Rattle.service.proofs.Ready.{search-ready}
 
 module _ (l : List ℕ) (b : List ℤ) (d : List ℕ) where

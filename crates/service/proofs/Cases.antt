@@ -29,7 +29,7 @@ use Rattle.lines.specs.Reading.{firstOf, fieldVerdict, pairOrdered, pairVerdict
 use Rattle.search.specs.Walk.{partialTotal, oneTry, triedFrom, openedTrain, searched}
 use Rattle.search.specs.Walk as walk
 use Rattle.search.specs.Answer.{searchAnswer}
-use Rattle.service.specs.Replies.{refusalReply, boundReply, certifyReply, planDigits, searchReply}
+use Rattle.replies.specs.Replies.{refusalReply, boundReply, certifyReply, planDigits, searchReply}
 use Rattle.service.specs.Answer.{requested, answer}
 use Rattle.service.specs.Ledger.{freshBlock}
 

@@ -22,8 +22,9 @@ use Rattle.lines.specs.Refusals.{refusalNumber}
 use Rattle.lines.specs.Reading.{lineOf}
 use Rattle.lines.proofs.LineAccepted.{Makes, line-makes}
 use Rattle.lines.proofs.LineKind.{requestKind, line-kind, line-refused}
-use Rattle.service.specs.Replies.{refusalReply}
-use Rattle.service.specs.Answer.{Answer, answered, declined, requested, lineAnswer, answer, minBuffer}
+use Rattle.replies.specs.Replies.{refusalReply}
+use Rattle.replies.specs.Wrote.{minBuffer}
+use Rattle.service.specs.Answer.{Answer, answered, declined, requested, lineAnswer, answer}
 use Rattle.service.specs.Ledger.{Call, Ledger, freshBlock, lastBlock, entries, accepted, fed, ledgerOf, emptyLedger, hasLoad}
 use Rattle.service.specs.Claims.{AtLine, EachLine, Demand}
 use Rattle.service.proofs.Keeps.{Keeps, after-list}

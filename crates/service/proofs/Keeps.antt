@@ -13,7 +13,7 @@ use Rattle.tables.proofs.Bound.{rounded-least}
 use Rattle.tables.proofs.Plans.{constant-at-most-total}
 use Rattle.tables.proofs.Study.{trains-range, scale-range, pairs-range, first-below-trains, second-below-trains, loaded-choice-range, loaded-entry-range}
 use Rattle.tables.proofs.Sum.{sum-cong, sum-most}
-use Rattle.service.specs.Replies.{boundOf}
+use Rattle.replies.specs.Replies.{boundOf}
 use Rattle.service.specs.Ledger.{Ledger, costOf}
 use Rattle.service.specs.Claims.{PlanOf, scaledCost, AfterList}
 

@@ -8,8 +8,6 @@ pub mod Lines
 pub mod Steps
 pub mod Demand
 pub mod Answers
-pub mod Writing
-pub mod ReplyFields
 pub mod Outcomes
 pub mod Ready
 pub mod Calls

@@ -20,7 +20,7 @@ use Rattle.certificates.specs.declared.certify.Ceiling.{Ceiling}
 use Rattle.certificates.specs.Rival.{Rival, IsRival, ConstantAtMost}
 use Rattle.search.specs.declared.answer.Found.{Found}
 use Rattle.search.specs.Walk.{choicesOf}
-use Rattle.service.specs.Replies.{refusalByte, refusalReply, figureWidth, boundOf, boundReply, certifyReply, shownCost, shownChoice, searchReply}
+use Rattle.replies.specs.Replies.{refusalByte, refusalReply, figureWidth, boundOf, boundReply, certifyReply, shownCost, shownChoice, searchReply}
 use Rattle.service.specs.Ledger.{Entry, Ledger, accepted, costOf}
 use Rattle.service.specs.Claims.{PlanOf, kindShown, costShown, planShown, showsPlan, scaledCost, AtLine}
 use Rattle.service.proofs.ReadBack.{refusal-first, refusal-second, bound-kind, bound-shown, certify-kind, certify-weighted, certify-whole, search-kind, search-ended, search-cost, search-plan}

@@ -25,11 +25,12 @@ use Rattle.search.specs.Answer.{searchAnswer}
 use Rattle.tables.specs.Block.{trains}
 use Rattle.rewriting.specs.Shift.{shifted, shiftOutcome, shiftBlock}
 use Rattle.tables.specs.Numbers.{Numbers}
-use Rattle.service.specs.Replies.{boundReply, searchReply}
+use Rattle.replies.specs.Replies.{boundReply, searchReply}
+use Rattle.replies.specs.Wrote.{Wrote}
 use Rattle.certificates.specs.declared.certify.Certificate.{Certificate}
 use Rattle.certificates.specs.Certify.{weightsOf, certificate}
 use Rattle.service.specs.Answer.{operated, certified, requested}
-use Rattle.service.specs.Wrote.{Wrote, Answers}
+use Rattle.service.specs.Wrote.{Answers}
 use Rattle.service.proofs.Answers.{certified-leaves}
 
 -- a declined operation leaves the block

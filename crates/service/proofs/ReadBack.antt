@@ -17,7 +17,7 @@ use Rattle.lines.specs.Refusals.{refusalNumber}
 use Rattle.lines.proofs.RoundTrip.{field-after, digits-append, digits-length, read-back}
 use Rattle.certificates.specs.declared.certify.Ceiling.{Ceiling}
 use Rattle.search.specs.declared.answer.Found.{Found}
-use Rattle.service.specs.Replies.{refusalByte, refusalReply, replyKind, figureWidth, boundOf, boundReply, flag, certifyReply, planDigits, shownCost, shownChoice, searchReply}
+use Rattle.replies.specs.Replies.{refusalByte, refusalReply, replyKind, figureWidth, boundOf, boundReply, flag, certifyReply, planDigits, shownCost, shownChoice, searchReply}
 use Rattle.service.specs.Ledger.{accepted}
 use Rattle.service.specs.Claims.{kindShown, boundShown, weightedShown, wholeShown, saysEnded, costShown, planShown}
 

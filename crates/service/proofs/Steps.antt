@@ -47,8 +47,9 @@ use Rattle.certificates.specs.Certify.{weightsOf, certificate}
 use Rattle.certificates.proofs.Ceilings.{certify-fits}
 use Rattle.search.specs.Answer.{searchAnswer}
 use Rattle.search.proofs.Theorems.{search-entries}
-use Rattle.service.specs.Replies.{refusalByte, refusalReply, figureWidth, boundOf, boundReply, certifyReply, searchReply}
-use Rattle.service.specs.Answer.{Answer, answered, declined, operated, certified, requested, lineAnswer, answer, minBuffer}
+use Rattle.replies.specs.Replies.{refusalByte, refusalReply, figureWidth, boundOf, boundReply, certifyReply, searchReply}
+use Rattle.replies.specs.Wrote.{minBuffer}
+use Rattle.service.specs.Answer.{Answer, answered, declined, operated, certified, requested, lineAnswer, answer}
 use Rattle.service.specs.Ledger.{Ledger, accepted, loadedLedger, addedLedger, fed}
 use Rattle.service.specs.Claims.{AtLine}
 use Rattle.service.proofs.Found.{ceiling-holds, known-plan, known-low, ended-least}

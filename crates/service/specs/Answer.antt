@@ -1,10 +1,10 @@
--- Document 01: the answer to a call, from line, block and buffer to the block and the reply, and the buffer afterwards.
+-- Document 01: the answer to a call, from line, block and buffer to the block and the reply.
 use mathlib.Core.Bool.{cond}
-use mathlib.Core.List.{List, [], _++_}
+use mathlib.Core.List.{List, []}
 use Prim.Native.Nat.{ℕ}
 use lib.Dec.{ltb}
 use lib.IntN.{ℤ}
-use lib.ListN.{length, drop}
+use lib.ListN.{length}
 use Rattle.tables.specs.Block.{trains}
 use Rattle.tables.specs.WellFormed.{wellFormed}
 use Rattle.lines.specs.declared.refusal.Refusal.{Refusal}
@@ -26,7 +26,8 @@ use Rattle.certificates.specs.declared.certify.Certificate.{Certificate}
 use Rattle.certificates.specs.declared.certify.Certificate.the-variants.{Unbalanced, Balanced}
 use Rattle.certificates.specs.Certify.{weightsOf, certificate}
 use Rattle.search.specs.Answer.{searchAnswer}
-use Rattle.service.specs.Replies.{refusalReply, boundReply, certifyReply, searchReply}
+use Rattle.replies.specs.Replies.{refusalReply, boundReply, certifyReply, searchReply}
+use Rattle.replies.specs.Wrote.{minBuffer}
 
 -- the block after the call, and the reply
 pub record Answer : Type 0 where
@@ -67,14 +68,6 @@ abbrev pub lineAnswer : Line → List ℕ → List ℤ → Answer
 lineAnswer (Asked q) l b = requested q l b
 lineAnswer (Refused r) l b = declined b r
 
--- 17: 'reply buffer below 72 bytes'
-abbrev pub minBuffer : ℕ
-minBuffer = 72
-
 -- 'Order: 17, 16', then the line; 17 'hands back an empty part and writes nothing'
 unfoldable pub answer : List ℕ → List ℤ → List ℕ → Answer
 answer l b buffer = cond (ltb (length buffer) minBuffer) (answered b []) (cond (wellFormed b) (lineAnswer (lineOf l b) l b) (declined b Malformed))
-
--- 'the written front of the reply buffer; what lies behind it stays'
-abbrev pub written : List ℕ → List ℕ → List ℕ
-written reply buffer = reply ++ drop (length reply) buffer

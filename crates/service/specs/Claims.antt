@@ -12,7 +12,7 @@ use Rattle.lines.specs.Fields.{field}
 use Rattle.lines.specs.Layout.{kindOf}
 use Rattle.lines.specs.declared.refusal.Refusal.the-variants.{PartsOutside}
 use Rattle.certificates.specs.Rival.{Rival, IsRival, ConstantAtMost}
-use Rattle.service.specs.Replies.{boundOf, refusalReply, replyKind, figureWidth}
+use Rattle.replies.specs.Replies.{boundOf, refusalReply, replyKind, figureWidth}
 use Rattle.service.specs.Ledger.{Call, Entry, Ledger, freshBlock, lastBlock, entries, accepted, fed, ledgerOf, emptyLedger, costOf, hasLoad}
 
 -- a plan of a ledger

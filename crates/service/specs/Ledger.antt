@@ -11,7 +11,7 @@ use Rattle.tables.specs.Plans.{Shape, Costs, total}
 use Rattle.lines.specs.Fields.{field}
 use Rattle.lines.specs.Layout.{kindOf, addTrain, addChoice, addPoints}
 use Rattle.lines.specs.Numbers.{numbersOf}
-use Rattle.service.specs.Replies.{refusalByte}
+use Rattle.replies.specs.Replies.{refusalByte}
 use Rattle.service.specs.Answer.{answer}
 
 -- 'Each call has any line, any reply buffer'

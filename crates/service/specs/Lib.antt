@@ -1,4 +1,3 @@
-pub mod Replies
 pub mod Answer
 pub mod Wrote
 pub mod Ledger

@@ -1,4 +1,4 @@
--- What a function that writes a reply, or answers a call, leaves, and what the functions for the requests ask.
+-- What a function that answers a call leaves, and what the functions for the requests ask.
 use mathlib.Core.Path.{_≡_}
 use mathlib.Core.List.{List}
 use mathlib.Core.Bool.{true}
@@ -11,14 +11,10 @@ use Rattle.lines.specs.declared.request.Add.{Add}
 use Rattle.lines.specs.declared.request.Request.{Request}
 use Rattle.lines.specs.declared.request.Line.the-variants.{Asked}
 use Rattle.lines.specs.Reading.{lineOf}
-use Rattle.service.specs.Answer.{Answer, written, minBuffer}
+use Rattle.replies.specs.Wrote.{minBuffer, Wrote}
+use Rattle.service.specs.Answer.{Answer}
 
--- the reply stands in front of a buffer, and n is how many characters it has
-pub record Wrote (buffer reply after : List ℕ) (n : ℕ) : Type 0 where
-  pub count : n ≡ length reply
-  pub front : after ≡ written reply buffer
-
--- the same of an answer, with the block that it leaves
+-- the reply of an answer stands in front of a buffer, n is how many characters it has, and the block is the one that the answer leaves
 pub record Answers (a : Answer) (buffer : List ℕ) (left : List ℤ) (after : List ℕ) (n : ℕ) : Type 0 where
   pub block : left ≡ a .block
   pub reply : Wrote buffer (a .reply) after n

@@ -2,11 +2,11 @@
 ghost use mathlib.Core.Path.{_≡_};
 ghost use Rattle.service.specs.Answer.{answer};
 ghost use Rattle.service.specs.Wrote.{Answers};
-use crate::replies;
 use crate::requests;
 use lines::reader;
 use lines::refusal::Refusal;
 use lines::request::Line;
+use replies::replies::write_refusal;
 use tables::well_formed;
 
 // The smallest reply buffer, in characters.
@@ -20,10 +20,10 @@ pub fn respond(line: &[u8], block: &mut [i64], reply: &mut [u8]) -> usize
         return 0;
     }
     if !well_formed::well_formed(block) {
-        return replies::write_refusal(reply, Refusal::Malformed);
+        return write_refusal(reply, Refusal::Malformed);
     }
     match reader::read(line, block) {
-        Line::Refused(r) => replies::write_refusal(reply, r),
+        Line::Refused(r) => write_refusal(reply, r),
         Line::Asked(q) => requests::answer_request(line, block, reply, q),
     }
 }

@@ -13,10 +13,10 @@ ghost use Rattle.lines.specs.Reading.{loadVerdict};
 ghost use Rattle.operations.specs.Add.{addOutcome, addBlock};
 ghost use Rattle.rewriting.specs.Tighten.{tightenOutcome, tightenBlock};
 ghost use Rattle.search.specs.Answer.{searchAnswer};
-ghost use Rattle.service.specs.Replies.{searchReply};
-ghost use Rattle.service.specs.Answer.{minBuffer, operated, requested};
-ghost use Rattle.service.specs.Wrote.{Wrote, Answers, Asks, Adds};
-use crate::replies;
+ghost use Rattle.replies.specs.Replies.{searchReply};
+ghost use Rattle.replies.specs.Wrote.{minBuffer, Wrote};
+ghost use Rattle.service.specs.Answer.{operated, requested};
+ghost use Rattle.service.specs.Wrote.{Answers, Asks, Adds};
 use certificates::certify;
 use certificates::certify::Certificate;
 use lines::decode;
@@ -29,6 +29,11 @@ use lines::request::Search;
 use lines::request::Shift;
 use operations::add;
 use operations::load;
+use operations::outcome::Outcome;
+use replies::replies::write_bound;
+use replies::replies::write_certify;
+use replies::replies::write_refusal;
+use replies::replies::write_search;
 use rewriting::shift;
 use rewriting::tighten;
 use search::answer;
@@ -46,13 +51,25 @@ const MOVES: usize = Block::PAIRS * (Block::CHOICES + Block::CHOICES);
 // The most weights of a certificate.
 const WEIGHTS: usize = CHOICE_COSTS + ENTRIES;
 
+// Writes the reply to an operation of kind 2 to 4, by its outcome and the block afterwards.
+fn write_outcome(reply: &mut [u8], kind: u64, outcome: Outcome, block: &[i64]) -> usize
+    requires { ⌜ (minBuffer ≤ length (now reply)) × (kind ≤ 4) × Study (now block) ⌝ }
+    ensures { λ n. ⌜ Wrote (now (reply .entry)) (operated kind outcome (now (block .entry)) (now (block .entry)) .reply) (now (reply .exit)) n ⌝ }
+{
+    match outcome {
+        Outcome::Done => write_bound(reply, kind, block),
+        Outcome::CostAbove => write_refusal(reply, Refusal::CostAbove),
+        Outcome::PartsOutside => write_refusal(reply, Refusal::PartsOutside),
+    }
+}
+
 // Adds points to a choice.
 fn answer_add(block: &mut [i64], reply: &mut [u8], q: Add) -> usize
     requires { ⌜ (minBuffer ≤ length (now reply)) × Adds (now block) q ⌝ }
     ensures { λ r. ⌜ Answers (operated 2 (addOutcome (q .train) (q .choice) (q .points) (now (block .entry))) (now (block .entry)) (addBlock (q .train) (q .choice) (q .points) (now (block .entry)))) (now (reply .entry)) (now (block .exit)) (now (reply .exit)) r ⌝ }
 {
     let outcome = add::add(block, q.train, q.choice, Points(q.points));
-    replies::write_outcome(reply, 2, outcome, block)
+    write_outcome(reply, 2, outcome, block)
 }
 
 // Tightens the held costs.
@@ -61,7 +78,7 @@ fn answer_tighten(block: &mut [i64], reply: &mut [u8]) -> usize
     ensures { λ r. ⌜ Answers (operated 4 (tightenOutcome (now (block .entry))) (now (block .entry)) (tightenBlock (now (block .entry)))) (now (reply .entry)) (now (block .exit)) (now (reply .exit)) r ⌝ }
 {
     let outcome = tighten::tighten(block);
-    replies::write_outcome(reply, 4, outcome, block)
+    write_outcome(reply, 4, outcome, block)
 }
 
 // Searches for the best plan.
@@ -70,7 +87,7 @@ fn answer_search(block: &[i64], reply: &mut [u8], q: Search) -> usize
     ensures { λ r. ⌜ Wrote (now (reply .entry)) (searchReply (trains (now (block .entry))) (searchAnswer (now (block .entry)) (q .budget))) (now (reply .exit)) r ⌝ }
 {
     let found = answer::search(block, q.budget);
-    replies::write_search(reply, block::trains(block), found)
+    write_search(reply, block::trains(block), found)
 }
 
 // Decodes the weights into a slice of their number, and judges the certificate.
@@ -86,8 +103,8 @@ fn certify_with(
 {
     decode::decode(line, q.weights.at, Certify::WEIGHT_WIDTH, weights);
     match certify::certify(block, q.whole, weights) {
-        Certificate::Unbalanced => replies::write_refusal(reply, Refusal::Sums),
-        Certificate::Balanced(c) => replies::write_certify(reply, q.whole, c),
+        Certificate::Unbalanced => write_refusal(reply, Refusal::Sums),
+        Certificate::Balanced(c) => write_certify(reply, q.whole, c),
     }
 }
 
@@ -116,7 +133,7 @@ fn shift_with(
     decode::decode_signed(line, q.lifts.at, Shift::MOVE_WIDTH, lifts);
     decode::decode_signed(line, q.moves.at, Shift::MOVE_WIDTH, moves);
     let outcome = shift::shift(block, lifts, moves);
-    replies::write_outcome(reply, 3, outcome, block)
+    write_outcome(reply, 3, outcome, block)
 }
 
 // Shifts the held costs.
@@ -153,7 +170,7 @@ fn load_with(
     decode::decode_pairs(line, q.pairs.at, firsts, seconds, entries);
     let scale = Scale::known(q.scale);
     load::load(block, scale, sizes, choices, firsts, seconds, entries);
-    replies::write_bound(reply, 1, block)
+    write_bound(reply, 1, block)
 }
 
 // How many costs the m pairs of an accepted load have, of which the first begins at byte `at`.

@@ -11,9 +11,10 @@ use lib.IntN.{ℤ}
 use lib.ListN.{length, take, drop, set, getD, length-take, length-append, length-replicate}
 use lib.Seq.{paste, take-all, take-take, take-append-add, take-paste, length-take-le, drop-cons, set-at}
 use borrow.Author.Tests.{lt-ltb, le-ltb, ltb-true, ltb-false}
-use Rattle.service.specs.Answer.{Answer, answered, answer, minBuffer}
-use Rattle.service.specs.Wrote.{Wrote, Answers}
-use Rattle.service.proofs.Writing.{wrote-none, wrote-length}
+use Rattle.replies.specs.Wrote.{minBuffer, Wrote}
+use Rattle.replies.proofs.Writing.{wrote-none, wrote-length}
+use Rattle.service.specs.Answer.{Answer, answered, answer}
+use Rattle.service.specs.Wrote.{Answers}
 use Rattle.service.proofs.Answers.{buffer-apart}
 use Rattle.service.proofs.Calls.{reply-short}
 use Rattle.stream.specs.Session.{lineFeed, lineCall}

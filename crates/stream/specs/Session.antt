@@ -5,7 +5,7 @@ use mathlib.Core.List.{List, [], _∷_, _++_, map}
 use Prim.Native.Nat.{ℕ}
 use lib.Dec.{eqb}
 use lib.ListN.{length, replicate}
-use Rattle.service.specs.Answer.{minBuffer}
+use Rattle.replies.specs.Wrote.{minBuffer}
 use Rattle.service.specs.Ledger.{Call, Entry, freshBlock, entries}
 
 -- 'line end': a line feed

@@ -1,7 +1,7 @@
 -- The front that was written is the reply.
 use borrow.Author.Needs.{needs}
 use mathlib.Core.Path.{refl, sym}
-use Rattle.service.proofs.Writing.{wrote-taken, wrote-length}
+use Rattle.replies.proofs.Writing.{wrote-taken, wrote-length}
 use Rattle.service.proofs.entry.answer.Statement.{statement}
 use Rattle.service.proofs.entry.answer.Tie as tie
 

@@ -1,11 +1,11 @@
 -- Four fields and the plan, one after the other, are the reply.
 use borrow.Author.Needs.{needs}
 use mathlib.Core.Path.{refl}
-use Rattle.service.specs.Replies.{planDigits, shownChoice}
-use Rattle.service.proofs.Writing.{wrote-none, wrote-field, wrote-through, wrote-as}
-use Rattle.service.proofs.ReplyFields.{search-fields}
-use Rattle.service.proofs.replies.write_search.Statement.{statement}
-use Rattle.service.proofs.replies.write_search.Tie as tie
+use Rattle.replies.specs.Replies.{planDigits, shownChoice}
+use Rattle.replies.proofs.Writing.{wrote-none, wrote-field, wrote-through, wrote-as}
+use Rattle.replies.proofs.ReplyFields.{search-fields}
+use Rattle.replies.proofs.replies.write_search.Statement.{statement}
+use Rattle.replies.proofs.replies.write_search.Tie as tie
 
 add-put-field : tie.Need-add-put-field
 add-put-field c = search needs

@@ -1,10 +1,10 @@
 -- Two fields, one after the other, are the reply.
 use borrow.Author.Needs.{needs}
 use mathlib.Core.Path.{refl}
-use Rattle.service.proofs.Writing.{wrote-none, wrote-field, wrote-as}
-use Rattle.service.proofs.ReplyFields.{refusal-fields}
-use Rattle.service.proofs.replies.write_refusal.Statement.{statement}
-use Rattle.service.proofs.replies.write_refusal.Tie as tie
+use Rattle.replies.proofs.Writing.{wrote-none, wrote-field, wrote-as}
+use Rattle.replies.proofs.ReplyFields.{refusal-fields}
+use Rattle.replies.proofs.replies.write_refusal.Statement.{statement}
+use Rattle.replies.proofs.replies.write_refusal.Tie as tie
 
 number-requires : tie.Need-number-requires
 number-requires c κs = search needs

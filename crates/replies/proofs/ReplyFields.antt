@@ -14,8 +14,8 @@ use Rattle.lines.specs.Refusals.{refusalNumber}
 use Rattle.lines.proofs.RoundTrip.{digits-length}
 use Rattle.certificates.specs.declared.certify.Ceiling.{Ceiling}
 use Rattle.search.specs.declared.answer.Found.{Found}
-use Rattle.service.specs.Replies.{refusalByte, refusalReply, replyKind, figureWidth, boundOf, boundReply, flag, certifyReply, planDigits, shownCost, shownChoice, searchReply}
-use Rattle.service.proofs.Writing.{digits-first}
+use Rattle.replies.specs.Replies.{refusalByte, refusalReply, replyKind, figureWidth, boundOf, boundReply, flag, certifyReply, planDigits, shownCost, shownChoice, searchReply}
+use Rattle.replies.proofs.Writing.{digits-first}
 
 pub refusal-fields : (r : Refusal) → fieldDigits 1 refusalByte [] ++ fieldDigits 1 (refusalNumber r) [] ≡ refusalReply r
 unfolding refusalReply

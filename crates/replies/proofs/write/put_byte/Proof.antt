@@ -2,9 +2,9 @@
 use borrow.Author.Needs.{needs}
 use native.Mathlib.Omega.{arith}
 use lib.ListN.{length-set}
-use Rattle.service.proofs.Writing.{two-set}
-use Rattle.service.proofs.write.put_byte.Statement.{statement}
-use Rattle.service.proofs.write.put_byte.Tie as tie
+use Rattle.replies.proofs.Writing.{two-set}
+use Rattle.replies.proofs.write.put_byte.Statement.{statement}
+use Rattle.replies.proofs.write.put_byte.Tie as tie
 
 digit-of-requires : tie.Need-digit-of-requires
 digit-of-requires c κs = search needs

@@ -1,10 +1,10 @@
 -- Four fields, one after the other, are the reply.
 use borrow.Author.Needs.{needs}
 use mathlib.Core.Path.{refl}
-use Rattle.service.proofs.Writing.{wrote-none, wrote-field, wrote-as}
-use Rattle.service.proofs.ReplyFields.{certify-fields}
-use Rattle.service.proofs.replies.write_certify.Statement.{statement}
-use Rattle.service.proofs.replies.write_certify.Tie as tie
+use Rattle.replies.proofs.Writing.{wrote-none, wrote-field, wrote-as}
+use Rattle.replies.proofs.ReplyFields.{certify-fields}
+use Rattle.replies.proofs.replies.write_certify.Statement.{statement}
+use Rattle.replies.proofs.replies.write_certify.Tie as tie
 
 add-put-field : tie.Need-add-put-field
 add-put-field c = search needs

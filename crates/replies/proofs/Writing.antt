@@ -10,7 +10,7 @@ use lib.Seq.{sets-eq, take-at, drop-at, take-take, drop-drop, drop-append-add, l
 use Rattle.lines.specs.Digits.{byteDigits}
 use Rattle.lines.specs.Fields.{fieldDigits}
 use Rattle.lines.proofs.RoundTrip.{digits-append, digits-length}
-use Rattle.service.specs.Wrote.{Wrote}
+use Rattle.replies.specs.Wrote.{Wrote}
 
 -- ---- one byte
 

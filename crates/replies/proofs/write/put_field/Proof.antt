@@ -2,9 +2,9 @@
 use borrow.Author.Needs.{needs}
 use mathlib.Core.Path.{refl}
 use native.Mathlib.Omega.{arith}
-use Rattle.service.proofs.Writing.{Still, still-next, still-none}
-use Rattle.service.proofs.write.put_field.Statement.{statement}
-use Rattle.service.proofs.write.put_field.Tie as tie
+use Rattle.replies.proofs.Writing.{Still, still-next, still-none}
+use Rattle.replies.proofs.write.put_field.Statement.{statement}
+use Rattle.replies.proofs.write.put_field.Tie as tie
 
 abbrev Inv-loop : tie.InvT-loop
 Inv-loop reply₀ at width v rest₀ w₀ reply rest w = Still reply₀ at width v reply rest w

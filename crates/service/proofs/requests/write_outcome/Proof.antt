@@ -1,7 +1,7 @@
 -- Each outcome has its reply.
 use borrow.Author.Needs.{needs}
-use Rattle.service.proofs.replies.write_outcome.Statement.{statement}
-use Rattle.service.proofs.replies.write_outcome.Tie as tie
+use Rattle.service.proofs.requests.write_outcome.Statement.{statement}
+use Rattle.service.proofs.requests.write_outcome.Tie as tie
 
 enum-told : tie.Need-enum-told
 enum-told c = search needs

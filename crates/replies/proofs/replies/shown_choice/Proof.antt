@@ -1,7 +1,7 @@
 -- The test is the definition's.
 use borrow.Author.Needs.{needs}
-use Rattle.service.proofs.replies.shown_choice.Statement.{statement}
-use Rattle.service.proofs.replies.shown_choice.Tie as tie
+use Rattle.replies.proofs.replies.shown_choice.Statement.{statement}
+use Rattle.replies.proofs.replies.shown_choice.Tie as tie
 
 element-copy-out-result : tie.Need-element-copy-out-result
 element-copy-out-result c = search needs

@@ -5,12 +5,12 @@ use mathlib.Core.List.{_++_, append-nil}
 use Prim.Native.Nat.{_+_, _*_, _-_, _≤_}
 use native.Mathlib.Omega.{arith}
 use lib.ListN.{length, take}
-use Rattle.service.specs.Replies.{planDigits, shownChoice}
-use Rattle.service.specs.Wrote.{Wrote}
-use Rattle.service.proofs.Writing.{wrote-field, wrote-as, wrote-front}
-use Rattle.service.proofs.ReplyFields.{plan-none, plan-more}
-use Rattle.service.proofs.replies.write_plan.Statement.{statement}
-use Rattle.service.proofs.replies.write_plan.Tie as tie
+use Rattle.replies.specs.Replies.{planDigits, shownChoice}
+use Rattle.replies.specs.Wrote.{Wrote}
+use Rattle.replies.proofs.Writing.{wrote-field, wrote-as, wrote-front}
+use Rattle.replies.proofs.ReplyFields.{plan-none, plan-more}
+use Rattle.replies.proofs.replies.write_plan.Statement.{statement}
+use Rattle.replies.proofs.replies.write_plan.Tie as tie
 
 abbrev Inv-loop : tie.InvT-loop
 Inv-loop reply₀ from n f at₀ i₀ reply at i = (i ≤ n) × (at ≡ from + 2 * i) × (length reply ≡ length reply₀) × Wrote reply₀ (take from reply₀ ++ planDigits 0 i (shownChoice f)) reply at

@@ -5,10 +5,10 @@ use native.Mathlib.Omega.{arith}
 use Rattle.tables.specs.declared.units.Points.{Points}
 use Rattle.tables.specs.Units.{roundedUp}
 use Rattle.tables.proofs.Study.{scale-range, constant-range}
-use Rattle.service.proofs.Writing.{wrote-none, wrote-field, wrote-as}
-use Rattle.service.proofs.ReplyFields.{bound-fields}
-use Rattle.service.proofs.replies.write_bound.Statement.{statement}
-use Rattle.service.proofs.replies.write_bound.Tie as tie
+use Rattle.replies.proofs.Writing.{wrote-none, wrote-field, wrote-as}
+use Rattle.replies.proofs.ReplyFields.{bound-fields}
+use Rattle.replies.proofs.replies.write_bound.Statement.{statement}
+use Rattle.replies.proofs.replies.write_bound.Tie as tie
 
 constant-requires : tie.Need-constant-requires
 constant-requires c κs = search needs

@@ -5,14 +5,12 @@ ghost use Prim.Native.Nat.{_+_, _*_, _<_, _≤_};
 ghost use lib.ListN.{length, take};
 ghost use Rattle.tables.specs.Block.{maxTrains};
 ghost use Rattle.tables.specs.WellFormed.{Study};
-ghost use Rattle.service.specs.Replies.{refusalReply, boundReply, flag, certifyReply, planDigits, shownCost, shownChoice, searchReply};
-ghost use Rattle.service.specs.Answer.{minBuffer, operated};
-ghost use Rattle.service.specs.Wrote.{Wrote};
+ghost use Rattle.replies.specs.Replies.{refusalReply, boundReply, flag, certifyReply, planDigits, shownCost, shownChoice, searchReply};
+ghost use Rattle.replies.specs.Wrote.{minBuffer, Wrote};
 use crate::write;
 use certificates::certify::Ceiling;
 use lines::refusal;
 use lines::refusal::Refusal;
-use operations::outcome::Outcome;
 use search::answer::Found;
 use tables::block;
 
@@ -47,18 +45,6 @@ pub fn write_bound(reply: &mut [u8], kind: u64, block: &[i64]) -> usize
     let kind_end = write::put_field(reply, 0, 1, REPLY_KIND + kind);
     let constant_end = write::put_field(reply, kind_end, FIGURE_WIDTH, constant.0);
     write::put_field(reply, constant_end, FIGURE_WIDTH, bound.0)
-}
-
-// Writes the reply to an operation of kind 2 to 4, by its outcome and the block afterwards.
-pub fn write_outcome(reply: &mut [u8], kind: u64, outcome: Outcome, block: &[i64]) -> usize
-    requires { ⌜ (minBuffer ≤ length (now reply)) × (kind ≤ 4) × Study (now block) ⌝ }
-    ensures { λ n. ⌜ Wrote (now (reply .entry)) (operated kind outcome (now (block .entry)) (now (block .entry)) .reply) (now (reply .exit)) n ⌝ }
-{
-    match outcome {
-        Outcome::Done => write_bound(reply, kind, block),
-        Outcome::CostAbove => write_refusal(reply, Refusal::CostAbove),
-        Outcome::PartsOutside => write_refusal(reply, Refusal::PartsOutside),
-    }
 }
 
 // A byte that says yes or no.
