@@ -9,9 +9,9 @@ use lib.IntN.{ℤ}
 use Rattle.tables.specs.Block.{constant}
 use Rattle.tables.specs.WellFormed.{Study}
 use Rattle.tables.specs.Plans.{Shape, IsPlan, total, shapeOf, heldCosts}
+use Rattle.tables.specs.Ranges.{maxWhole}
 use Rattle.tables.proofs.Range.{both-true}
 use Rattle.tables.proofs.Plans.{study-shaped}
-use Rattle.tables.specs.Ranges.{maxWhole}
 use Rattle.certificates.specs.declared.certify.Certificate.the-variants.{Unbalanced, Balanced}
 use Rattle.certificates.specs.declared.certify.Ceiling.{Ceiling}
 use Rattle.certificates.specs.Certify.{Weights, balanced, weighted, weightsOf, ceiling, certificate}

@@ -4,10 +4,11 @@ use mathlib.Core.List.{List, [], _∷_}
 use Prim.Native.Nat.{ℕ}
 use lib.Dec.{T, eqb}
 use lib.IntN.{ℤ, pos}
-use lib.ListN.{replicate, set}
+use lib.ListN.{set}
 use Rattle.tables.specs.Sum.{sum}
 use Rattle.tables.specs.Range.{all}
-use Rattle.tables.specs.Block.{blockLength, trainsPlace, scalePlace, pairsPlace, constantPlace, sizePlace, firstPlace, secondPlace, heldChoicePlace, heldEntryPlace, figure}
+use Rattle.tables.specs.Block.{trainsPlace, scalePlace, pairsPlace, constantPlace, sizePlace, firstPlace, secondPlace, heldChoicePlace, heldEntryPlace, figure}
+use Rattle.tables.specs.WellFormed.{freshBlock}
 use Rattle.tables.specs.Plans.{shapeOf, heldCosts}
 use Rattle.certificates.specs.declared.certify.Certificate.{Certificate}
 use Rattle.certificates.specs.declared.certify.Certificate.the-variants.{Unbalanced, Balanced}
@@ -16,7 +17,7 @@ use Rattle.certificates.specs.Certify.{trainBalanced, rowBalanced, colum
 -- the shape of J: two trains of two choices, s = 1, and one pair
 shape : List ℤ
 shape =
-    set (set (set (set (set (set (set (replicate blockLength (pos 0)) trainsPlace (pos 2)) scalePlace (pos 1)) pairsPlace (pos 1)) (sizePlace 0) (pos 2)) (sizePlace 1) (pos 2)) (firstPlace 0) (pos 0)) (secondPlace 0) (pos 1)
+    set (set (set (set (set (set (set freshBlock trainsPlace (pos 2)) scalePlace (pos 1)) pairsPlace (pos 1)) (sizePlace 0) (pos 2)) (sizePlace 1) (pos 2)) (firstPlace 0) (pos 0)) (secondPlace 0) (pos 1)
 
 -- T of J, loaded
 loaded : List ℤ

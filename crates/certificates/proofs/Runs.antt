@@ -3,7 +3,7 @@ use mathlib.Core.Path.{_≡_, sym, ap, ap₂, _∙_}
 use mathlib.Core.Bool.{true, false, _&&_}
 use mathlib.Core.List.{List}
 use Prim.Native.Nat.{ℕ, _+_, _*_, _<_, _≤_}
-use native.Mathlib.Nat.{mul-comm, mul-suc, one-mul, mul-le-mul, mul-le-mul-left, mul-le-mul-right}
+use native.Mathlib.Nat.{one-mul, mul-le-mul, mul-le-mul-right}
 use native.Mathlib.Omega.{arith}
 use lib.Dec.{eqb}
 use lib.IntN.{ℤ}
@@ -15,10 +15,10 @@ use Rattle.tables.specs.Range.{all}
 use Rattle.tables.specs.Block.{maxTrains, maxChoices, maxPairs, maxParts, figure, heldChoicePlace, heldEntryPlace, trains, pairs, constant, size, first, second}
 use Rattle.tables.specs.WellFormed.{Study}
 use Rattle.tables.specs.Plans.{shapeOf, heldCosts}
-use Rattle.tables.proofs.Sum.{sum-cong, sum-term, sum-more, sum-most, sum-front, sum-weighted}
+use Rattle.tables.specs.Runs.{choicesBefore, entriesBefore}
+use Rattle.tables.proofs.Sum.{sum-cong, sum-term, sum-more, sum-most, sum-front, sum-weighted, row-part}
 use Rattle.tables.proofs.Range.{all-true, all-cong, both-true}
 use Rattle.tables.proofs.Study.{trains-range, pairs-range, constant-range, size-range, first-below-trains, second-below-trains, held-choice-range, held-entry-range}
-use Rattle.tables.specs.Runs.{choicesBefore, entriesBefore}
 use Rattle.certificates.specs.Certify.{trainBalanced, rowBalanced, columnBalanced, pairBalanced, balanced, overChoices, overPairs, weighted, weightsOf, WeightsFor, ceiling}
 use Rattle.certificates.specs.Runs.{runSum, Run, runWeighted, Light, runsMatch, Runs, trainsMatch, entries, entriesFrom, pairMatches, pairsMatch, trainWeighted, trainsWeighted, rowWeighted, pairWeighted, pairsWeighted, LightRuns}
 
@@ -64,9 +64,6 @@ module _ (b : List ℤ) where
   pair-end k h = omega (arith, sum-more k (entries b), sum-front (k + 1) (pairs b) (entries b) (omega arith))
 
 -- row a of a table of so many columns ends where the next begins
-row-end : (rows columns a : ℕ) → a < rows → columns * a + columns ≤ rows * columns
-row-end rows columns a h = omega (arith, mul-suc columns a, mul-comm rows columns, mul-le-mul-left columns h)
-
 module _ {b : List ℤ} {l : List ℕ} (s : Study b) (w : WeightsFor b l) where
   run-of : (from step count : ℕ) → (1 ≤ count) × (count ≤ maxChoices) → ((k : ℕ) → k < count → from + step * k < length l) → Run l from step count
   run-of from step count h q = record { some = h .0; few = h .1; inside = q; small = λ k r. w .small (from + step * k) (q k r) }
@@ -88,7 +85,7 @@ module _ {b : List ℤ} {l : List ℕ} (s : Study b) (w : WeightsFor b l) where
     pair-inside = omega (arith, pair-end b k h, w .count)
 
     pub row-inside : (a : ℕ) → a < size b (first b k) → entriesFrom b k + size b (second b k) * a + size b (second b k) ≤ length l
-    row-inside a q = omega (arith, pair-inside, row-end (size b (first b k)) (size b (second b k)) a q)
+    row-inside a q = omega (arith, pair-inside, row-part (size b (first b k)) (size b (second b k)) a q)
 
     pub rows-runs : Runs l (entriesFrom b k) (size b (second b k)) 1 (size b (second b k)) (choicesBefore b (first b k)) (size b (first b k))
     rows-runs =

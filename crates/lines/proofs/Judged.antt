@@ -10,15 +10,15 @@ use native.Mathlib.Omega.{arith}
 use lib.Dec.{leb, eqb}
 use borrow.Author.Tests.{leb-true, eqb-true, not-true, not-false}
 use Rattle.tables.proofs.Range.{both-true, below-suc}
+use Rattle.frames.specs.Digits.{bytes}
+use Rattle.frames.specs.Fields.{field}
 use Rattle.lines.specs.declared.refusal.Refusal.{Refusal}
 use Rattle.lines.specs.declared.refusal.Refusal.the-variants.{Fields}
 use Rattle.lines.specs.declared.request.Rule.{Rule}
 use Rattle.lines.specs.declared.request.Rule.the-variants.{Between}
 use Rattle.lines.specs.declared.request.Verdict.{Verdict}
 use Rattle.lines.specs.declared.request.Verdict.the-variants.{Fine, Declined}
-use Rattle.lines.specs.Digits.{bytes}
-use Rattle.lines.specs.Fields.{field}
-use Rattle.lines.specs.Reading.{then, isFine, firstOf, unless, obeys, fieldVerdict, runVerdict, endVerdict}
+use Rattle.lines.specs.Verdicts.{then, isFine, firstOf, unless, obeys, fieldVerdict, runVerdict, endVerdict}
 
 -- ---- the first reason
 

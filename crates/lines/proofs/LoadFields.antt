@@ -8,17 +8,17 @@ use native.Mathlib.Numerals.{add-one}
 use native.Mathlib.Omega.{arith}
 use lib.Dec.{ltb, leb, eqb}
 use borrow.Author.Tests.{ltb-true, leb-true}
+use Rattle.units.specs.Units.{scaleMin, scaleMax}
 use Rattle.tables.specs.Block.{maxTrains, maxChoices, maxCost, entriesOfPair}
-use Rattle.tables.specs.Units.{scaleMin, scaleMax}
 use Rattle.tables.specs.WellFormed.{before}
 use Rattle.tables.proofs.Range.{both-true}
 use Rattle.tables.proofs.Sum.{sum-mono, sum-const}
+use Rattle.frames.specs.Digits.{bytes}
 use Rattle.lines.specs.declared.refusal.Refusal.the-variants.{Fields, Range, Cost, Pair}
 use Rattle.lines.specs.declared.request.Rule.the-variants.{Between}
 use Rattle.lines.specs.declared.request.Verdict.the-variants.{Fine}
-use Rattle.lines.specs.Digits.{bytes}
 use Rattle.lines.specs.Layout.{costWidth, loadTrains, loadScale, sizesAt, loadSize, choiceCount, pairCountAt, entryCount, pairAt, loadFirst, loadSecond}
-use Rattle.lines.specs.Reading.{Sized, then, unless, fieldVerdict, runVerdict, pairOrdered, pairVerdict, headVerdict, sizesVerdict}
+use Rattle.lines.specs.Verdicts.{Sized, then, unless, fieldVerdict, runVerdict, pairOrdered, pairVerdict, headVerdict, sizesVerdict}
 use Rattle.lines.proofs.Judged.{then-fine, unless-fine, field-within, between, run-fine, run-there}
 
 -- ---- n, s and the sizes

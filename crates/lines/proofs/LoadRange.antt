@@ -15,17 +15,19 @@ use Rattle.tables.specs.Block.{maxPairs, maxCost}
 use Rattle.tables.specs.Numbers.{InRange, nth, entryStart}
 use Rattle.tables.specs.WellFormed.{before}
 use Rattle.tables.proofs.Sum.{sum-none, sum-more, sum-cong}
+use Rattle.frames.specs.Fields.{field}
+use Rattle.frames.specs.Runs.{listOf, runOf}
+use Rattle.frames.proofs.Lists.{list-length, list-nth, list-past}
 use Rattle.lines.specs.declared.refusal.Refusal.the-variants.{Range, Cost}
 use Rattle.lines.specs.declared.request.Rule.the-variants.{Between}
 use Rattle.lines.specs.declared.request.Verdict.the-variants.{Fine}
-use Rattle.lines.specs.Fields.{field}
 use Rattle.lines.specs.Layout.{costWidth, loadTrains, loadSize, choicesAt, choiceCount, pairCountAt, loadPairs, entryCount, pairAt, loadFirst, loadSecond}
-use Rattle.lines.specs.Numbers.{listOf, runOf, entriesOf, numbersOf}
-use Rattle.lines.specs.Reading.{runVerdict, loadVerdict}
+use Rattle.lines.specs.Numbers.{entriesOf, numbersOf}
+use Rattle.lines.specs.Verdicts.{runVerdict, loadVerdict}
 use Rattle.lines.proofs.Judged.{field-within, between, run-fine}
 use Rattle.lines.proofs.LoadFields.{head-fine, Ordered, pair-ordered}
-use Rattle.lines.proofs.Accepted.{FineLoad, load-fine, load-sized, load-pair}
-use Rattle.lines.proofs.Runs.{list-length, list-nth, list-past, entries-none, entries-more, entries-length}
+use Rattle.lines.proofs.LoadAccepted.{FineLoad, load-fine, load-sized, load-pair}
+use Rattle.lines.proofs.Entries.{entries-none, entries-more, entries-length}
 
 -- each entry of a run of costs that was judged fine, and 0 past its end
 run-costs : (l : List ℕ) (at n : ℕ) → runVerdict l at costWidth n (Between 0 maxCost) Cost ≡ Fine → (o : ℕ) → nth (runOf l at costWidth n) o ≤ maxCost

@@ -2,7 +2,7 @@
 use mathlib.Core.List.{List}
 use Prim.Native.Nat.{ℕ, zero, suc, _+_, _*_}
 use Rattle.tables.specs.Sum.{sum}
-use Rattle.lines.specs.Fields.{field}
+use Rattle.frames.specs.Fields.{field}
 
 -- 'The first byte is the kind'
 abbrev pub kindOf : List ℕ → ℕ

@@ -1,7 +1,4 @@
-pub mod Digits
-pub mod Fields
 pub mod Refusals
-pub mod Frames
 pub mod Layout
-pub mod Reading
+pub mod Verdicts
 pub mod Numbers

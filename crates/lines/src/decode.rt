@@ -1,51 +1,20 @@
-// The numbers of a line, written into lent slices: what a caller stores.
+// The pairs of a load, written into lent slices: what a caller stores.
 ghost use mathlib.Core.Path.{_≡_};
 ghost use mathlib.Core.Bool.{true};
 ghost use Prim.Native.Nat.{_+_, _*_, _<_, _≤_};
 ghost use lib.ListN.{length, set};
 ghost use lib.Seq.{paste};
+ghost use Rattle.frames.specs.Fields.{field};
+ghost use Rattle.frames.specs.Frames.{maxCharacters, framed, Framed};
+ghost use Rattle.frames.specs.Runs.{listOf, runOf};
 ghost use Rattle.lines.specs.declared.request.Verdict.the-variants.{Fine};
-ghost use Rattle.lines.specs.Fields.{maxWidth, field};
-ghost use Rattle.lines.specs.Frames.{maxCharacters, framed, Framed};
 ghost use Rattle.lines.specs.Layout.{loadTrains, loadPairs, loadFirst, loadSecond, entryCount, pairAt, costWidth};
-ghost use Rattle.lines.specs.Numbers.{listOf, runOf, signedRunOf, entriesOf};
-ghost use Rattle.lines.specs.Reading.{Sized, loadVerdict};
-use crate::fields;
+ghost use Rattle.lines.specs.Numbers.{entriesOf};
+ghost use Rattle.lines.specs.Verdicts.{Sized, loadVerdict};
 use crate::load;
 use crate::request::Load;
-
-// A run of fields of `width` bytes from byte `at` on, as many as the slice has places.
-pub fn decode(line: &[u8], at: usize, width: usize, out: &mut [u64])
-    requires { ⌜ (2 * (at + width * length (now out)) ≤ length (now line)) × (width ≤ maxWidth) ⌝ }
-    ensures { λ _. ⌜ now (out .exit) ≡ runOf (now (line .entry)) at width (length (now (out .entry))) ⌝ }
-{
-    let count = out.len();
-    decode_at(line, at, width, out, 0, count);
-}
-
-// A run of `count` fields, into the places of the slice from `from` on.
-fn decode_at(line: &[u8], at: usize, width: usize, out: &mut [u64], from: usize, count: usize)
-    requires { ⌜ (2 * (at + width * count) ≤ length (now line)) × (width ≤ maxWidth) × (from + count ≤ length (now out)) ⌝ }
-    ensures { λ _. ⌜ now (out .exit) ≡ paste (now (out .entry)) from (runOf (now (line .entry)) at width count) count ⌝ }
-{
-    let mut k = 0;
-    while k < count {
-        out[from + k] = fields::field(line, at + width * k, width);
-        k += 1;
-    }
-}
-
-// A run of fields in two's complement, as many as the slice has places.
-pub fn decode_signed(line: &[u8], at: usize, width: usize, out: &mut [i64])
-    requires { ⌜ (framed (now line) ≡ true) × (2 * (at + width * length (now out)) ≤ length (now line)) × (width ≤ maxWidth) ⌝ }
-    ensures { λ _. ⌜ now (out .exit) ≡ signedRunOf (now (line .entry)) at width (length (now (out .entry))) ⌝ }
-{
-    let mut k = 0;
-    while k < out.len() {
-        out[k] = fields::signed(width, fields::field(line, at + width * k, width));
-        k += 1;
-    }
-}
+use frames::fields;
+use frames::runs;
 
 // The pair at byte `at`: its trains into place k, its costs into the places from `from` on. The answer is how many costs there are.
 fn decode_pair(
@@ -69,7 +38,7 @@ fn decode_pair(
     firsts[k] = fields::field(line, at, 1);
     seconds[k] = fields::field(line, at + 1, 1);
     let count = load::entry_count(line, bytes, at);
-    decode_at(line, at + 2, Load::COST_WIDTH, entries, from, count);
+    runs::decode_at(line, at + 2, Load::COST_WIDTH, entries, from, count);
     count
 }
 

@@ -1,11 +1,6 @@
-// Lines as text: digits, fields, frames, and what a line asks or why it is declined.
-mod counts;
+// What a line can ask and why it can be declined; how its fields are judged; and the load line.
 pub mod decode;
-pub mod digits;
-pub mod fields;
-pub mod frame;
-mod load;
-pub mod reader;
+pub mod load;
 pub mod refusal;
 pub mod request;
-mod verdict;
+pub mod verdict;

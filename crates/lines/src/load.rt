@@ -4,15 +4,14 @@ ghost use Prim.Native.Nat.{_+_, _*_, _-_, _<_, _≤_, _^_};
 ghost use lib.ListN.{length};
 ghost use Rattle.tables.specs.Block.{maxTrains, maxChoices, maxPairs, maxCost, entriesOfPair};
 ghost use Rattle.tables.specs.Sum.{sum};
+ghost use Rattle.frames.specs.Digits.{bytes};
+ghost use Rattle.frames.specs.Fields.{field};
+ghost use Rattle.frames.specs.Frames.{Framed};
 ghost use Rattle.lines.specs.declared.refusal.Refusal.the-variants.{Range, Cost};
 ghost use Rattle.lines.specs.declared.request.Rule.the-variants.{Between};
 ghost use Rattle.lines.specs.declared.request.Verdict.the-variants.{Fine};
-ghost use Rattle.lines.specs.Digits.{bytes};
-ghost use Rattle.lines.specs.Fields.{field};
-ghost use Rattle.lines.specs.Frames.{Framed};
 ghost use Rattle.lines.specs.Layout.{costWidth, sizesAt, loadTrains, loadSize, entryCount, pairAt};
-ghost use Rattle.lines.specs.Reading.{Sized, runVerdict, pairOrdered, pairVerdict, headVerdict, restVerdict, loadVerdict, loadRequest};
-use crate::fields;
+ghost use Rattle.lines.specs.Verdicts.{Sized, runVerdict, pairOrdered, pairVerdict, headVerdict, restVerdict, loadVerdict, loadRequest};
 use crate::refusal::Refusal;
 use crate::request::Load;
 use crate::request::Request;
@@ -20,9 +19,10 @@ use crate::request::Rule;
 use crate::request::Run;
 use crate::request::Verdict;
 use crate::verdict;
+use frames::fields;
 use tables::block::Block;
-use tables::units::Scale;
 use tables::well_formed;
+use units::Scale;
 
 // n and s.
 fn head_verdict(line: &[u8], bytes: usize) -> Verdict

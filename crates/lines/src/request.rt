@@ -1,6 +1,6 @@
 // Document 01, 'Lines': a read line is either a refusal or one of six requests, each with its own fields. Offsets, in bytes, stand for long fields.
 ghost use mathlib.Core.Path.{_≡_};
-ghost use Rattle.lines.specs.Reading.{isFine};
+ghost use Rattle.lines.specs.Verdicts.{isFine};
 use crate::refusal::Refusal;
 
 // A run of fields of equal width: the byte where it begins, and how many there are.

@@ -3,13 +3,13 @@ ghost use mathlib.Core.Path.{_≡_};
 ghost use Prim.Native.Nat.{_+_, _*_, _<_, _≤_, _^_};
 ghost use mathlib.Core.Bool.{_&&_};
 ghost use lib.Dec.{leb};
-ghost use Rattle.lines.specs.Fields.{maxWidth};
-ghost use Rattle.lines.specs.Frames.{Framed};
-ghost use Rattle.lines.specs.Reading.{obeys, fieldVerdict, runVerdict, endVerdict};
-use crate::fields;
+ghost use Rattle.frames.specs.Fields.{maxWidth};
+ghost use Rattle.frames.specs.Frames.{Framed};
+ghost use Rattle.lines.specs.Verdicts.{obeys, fieldVerdict, runVerdict, endVerdict};
 use crate::refusal::Refusal;
 use crate::request::Rule;
 use crate::request::Verdict;
+use frames::fields;
 
 // Whether a field's number is within its rule.
 fn obeys(rule: Rule, width: usize, v: u64) -> bool

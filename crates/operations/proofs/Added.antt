@@ -15,11 +15,11 @@ use Rattle.tables.specs.WellFormed.{from-to, usedIf, choiceUsed, limitsAt, Stud
 use Rattle.tables.specs.Plans.{Shape, Costs, IsPlan, choiceTotal, pairTotal, total, shapeOf, loadedCosts, heldCosts, loadedTotal, heldTotal}
 use Rattle.tables.proofs.Sum.{sum-cong, sum-one, update-same, update-other}
 use Rattle.tables.proofs.Limits.{choice-used, limits-loaded-choices, limits-held-choices}
-use Rattle.tables.proofs.Study.{trains-range, size-range, SameShape, same-figure, same-trains, same-limits, put-same-shape, put-study}
+use Rattle.tables.proofs.Study.{trains-range, size-range, SameShape, same-figure, same-trains, same-limits, put-same-shape, put-study, figure-at}
 use Rattle.tables.proofs.Plans.{same-shape-total, choice-at-most-total}
 use Rattle.operations.specs.declared.outcome.Outcome.the-variants.{Done, CostAbove, PartsOutside}
 use Rattle.operations.specs.Add.{added, addOutcome, addBlock}
-use Rattle.operations.proofs.LoadRuns.{Two, figure-at, set-two-length, set-two-kept, set-two}
+use Rattle.operations.proofs.LoadRuns.{Two, set-two-length, set-two-kept, set-two}
 
 -- H and T of the choice after the addition
 abbrev loadedAfter : ℕ → ℕ → ℕ → List ℤ → ℕ

@@ -1,5 +1,5 @@
 -- What the parts of a load leave at each place: the sizes, the pairs, a run of costs, and the tables that are made of runs. For every size.
-use mathlib.Core.Path.{_≡_, refl, sym, ap, subst, _∙_}
+use mathlib.Core.Path.{_≡_, refl, sym, subst, _∙_}
 use mathlib.Core.List.{List}
 use mathlib.Core.Logic.{dite, _≢_}
 use Prim.Native.Nat.{ℕ, _+_, _*_, _<_, _≤_}
@@ -8,18 +8,12 @@ use native.Mathlib.Omega.{arith}
 use lib.IntN.{ℤ, pos}
 use lib.ListN.{length, set, length-set}
 use lib.Seq.{getD-set-same, getD-set-other}
-use Rattle.tables.specs.Block.{blockLength, maxChoices, maxPairs, sizePlace, firstPlace, secondPlace, loadedChoicePlace, heldChoicePlace, loadedEntryPlace, heldEntryPlace, at, nat, figure}
-use Rattle.operations.specs.Fold.{iter}
+use Rattle.tables.specs.Block.{blockLength, maxChoices, maxPairs, sizePlace, firstPlace, secondPlace, loadedChoicePlace, heldChoicePlace, loadedEntryPlace, heldEntryPlace, at}
 use Rattle.tables.specs.Numbers.{nth, choiceStart, rowsOf, entryStart}
+use Rattle.operations.specs.Fold.{iter}
 use Rattle.operations.specs.Load.{sizesLoaded, pairsLoaded, runLoaded, choicesLoaded, pairLoaded, entriesLoaded, SizesIn}
 use Rattle.operations.proofs.Fold.{iter-ind}
 use Rattle.operations.proofs.LoadTurns.{choiceCost, entryCost, sizeTurn, trainTurn, rowTurn, entriesTurn}
-
--- ---- one place
-
-pub figure-at : (b : List ℤ) (p v : ℕ) → at b p ≡ pos v → figure b p ≡ v
-unfolding figure
-figure-at b p v e = ap nat e
 
 -- ---- turns that write a block
 

@@ -2,16 +2,16 @@
 use mathlib.Core.Path.{_≡_, ap, _∙_}
 use mathlib.Core.List.{List, [], _∷_, _++_}
 use Prim.Native.Nat.{ℕ, _+_, _*_, _<_, _≤_}
-use native.Mathlib.Nat.{mul-comm, mul-suc, mul-le-mul-left}
 use native.Mathlib.Numerals.{add-one}
 use native.Mathlib.Omega.{arith}
 use lib.IntN.{ℤ, pos}
 use lib.ListN.{length, set, take, replicate, replicate-append-replicate}
 use lib.Seq.{take-suc-set}
-use Rattle.tables.specs.Units.{Sound, theScale}
-use Rattle.tables.specs.Block.{blockLength, trainsPlace, scalePlace, pairsPlace, sizePlace, firstPlace, secondPlace, loadedChoicePlace, heldChoicePlace, loadedEntryPlace, heldEntryPlace}
-use Rattle.operations.specs.Fold.{iter}
+use Rattle.units.specs.Units.{Sound, theScale}
+use Rattle.tables.specs.Block.{trainsPlace, scalePlace, pairsPlace, sizePlace, firstPlace, secondPlace, loadedChoicePlace, heldChoicePlace, loadedEntryPlace, heldEntryPlace}
+use Rattle.tables.specs.WellFormed.{freshBlock}
 use Rattle.tables.specs.Numbers.{Numbers, nth, choiceStart, rowsOf, entryStart, InRange}
+use Rattle.operations.specs.Fold.{iter}
 use Rattle.operations.specs.Load.{headLoaded, sizesLoaded, pairsLoaded, runLoaded, choicesLoaded, pairLoaded, entriesLoaded, loadedBlock, SizesIn, PairsIn}
 use Rattle.operations.proofs.Fold.{iter-more}
 
@@ -71,7 +71,7 @@ pub pair-at : (s : ℕ) (entries : List ℕ) (rows columns k : ℕ) {start start
 pair-at s entries rows columns k e p q = e ∙ (λ i. pairLoaded s entries (p i) rows columns k (q i))
 
 pub loaded-by : (l : Numbers) {c d e f g : List ℤ}
-    → c ≡ headLoaded (length (l .sizes)) (l .scale) (length (l .firsts)) (replicate blockLength (pos 0))
+    → c ≡ headLoaded (length (l .sizes)) (l .scale) (length (l .firsts)) freshBlock
     → d ≡ sizesLoaded (l .sizes) c → e ≡ pairsLoaded (l .firsts) (l .seconds) d → f ≡ choicesLoaded (l .scale) (l .sizes) (l .choices) e
     → g ≡ entriesLoaded (l .scale) (l .sizes) (l .firsts) (l .seconds) (l .entries) f → g ≡ loadedBlock l
 unfolding loadedBlock
@@ -90,7 +90,3 @@ module _ {l : Numbers} (r : InRange l) where
   in-pairs n h = record { few = r .pairs .0; same = r .pairs .1; first = λ k q. omega (arith, r .below k q); second = λ k q. omega (arith, r .below k q) }
 
 -- ---- where the costs begin
-
--- a row of a pair is a part of the pair's costs
-pub row-part : (rows columns a : ℕ) → a < rows → columns * a + columns ≤ rows * columns
-row-part rows columns a h = omega (arith, mul-le-mul-left columns h, mul-comm rows columns, mul-suc columns a)

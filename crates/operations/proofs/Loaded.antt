@@ -9,21 +9,22 @@ use native.Mathlib.Nat.{mul-add, mul-zero, mul-le-mul}
 use native.Mathlib.Omega.{arith}
 use lib.Dec.{ltb}
 use lib.IntN.{ℤ, pos}
-use lib.ListN.{length, set, length-set, replicate, length-replicate, getD-replicate}
+use lib.ListN.{length, set, length-set, length-replicate, getD-replicate}
 use lib.Seq.{getD-set-same, getD-set-other}
 use borrow.Author.Tests.{lt-ltb, ltb-true, ltb-false, eq-eqb, ne-eqb}
+use Rattle.units.specs.Units.{scaleMin, scaleMax}
 use Rattle.tables.specs.Sum.{sum}
-use Rattle.tables.specs.Units.{scaleMin, scaleMax}
 use Rattle.tables.specs.Block.{blockLength, maxTrains, maxChoices, maxPairs, maxCost, maxParts, trainsPlace, scalePlace, pairsPlace, constantPlace, sizesFrom, firstsFrom, secondsFrom, sizePlace, firstPlace, secondPlace, loadedChoicesFrom, heldChoicesFrom, loadedEntriesFrom, heldEntriesFrom, entriesOfPair, loadedChoicePlace, heldChoicePlace, loadedEntryPlace, heldEntryPlace, at, trains, scale, pairs, constant, size, first, second, loadedChoice, heldChoice, loadedEntry, heldEntry}
-use Rattle.tables.specs.WellFormed.{Limits, from-to, within, usedIf, choiceUsed, entryUsed, headLimits, limitsAt, follows, pairRight, Study}
+use Rattle.tables.specs.WellFormed.{Limits, from-to, within, usedIf, choiceUsed, entryUsed, headLimits, limitsAt, follows, pairRight, Study, freshBlock}
 use Rattle.tables.specs.Plans.{IsPlan, choiceTotal, pairTotal, total, shapeOf, loadedCosts, heldCosts, loadedTotal, heldTotal}
+use Rattle.tables.specs.Numbers.{Numbers, nth, rowsOf, InRange}
 use Rattle.tables.proofs.Range.{both-true}
 use Rattle.tables.proofs.Limits.{within-pos, choice-used, entry-used, limits-head, limits-size, limits-first, limits-second, limits-loaded-choices, limits-held-choices, limits-loaded-entries, limits-held-entries}
 use Rattle.tables.proofs.Sum.{sum-cong, sum-scale}
-use Rattle.tables.specs.Numbers.{Numbers, nth, rowsOf, InRange}
+use Rattle.tables.proofs.Study.{figure-at}
 use Rattle.operations.specs.Load.{headLoaded, sizesLoaded, pairsLoaded, choicesLoaded, loadedBlock}
 use Rattle.operations.proofs.LoadTurns.{choiceCost, entryCost, in-sizes}
-use Rattle.operations.proofs.LoadRuns.{Two, Priced, figure-at, two-kept, sizes-length, sizes-kept, sizes-at, pairs-length, pairs-kept, pairs-two, choices-length, choices-kept, choices-two, entries-length, entries-kept, entries-two}
+use Rattle.operations.proofs.LoadRuns.{Two, Priced, two-kept, sizes-length, sizes-kept, sizes-at, pairs-length, pairs-kept, pairs-two, choices-length, choices-kept, choices-two, entries-length, entries-kept, entries-two}
 
 -- ---- the head
 
@@ -52,11 +53,8 @@ module _ (n s m : ℕ) (b : List ℤ) where
 
 -- ---- the block, part by part
 
-abbrev zeros : List ℤ
-zeros = replicate blockLength (pos 0)
-
 abbrev headed : Numbers → List ℤ
-headed l = headLoaded (length (l .sizes)) (l .scale) (length (l .firsts)) zeros
+headed l = headLoaded (length (l .sizes)) (l .scale) (length (l .firsts)) freshBlock
 
 abbrev sized : Numbers → List ℤ
 sized l = sizesLoaded (l .sizes) (headed l)
@@ -69,7 +67,7 @@ priced l = choicesLoaded (l .scale) (l .sizes) (l .choices) (shaped l)
 
 module _ {l : Numbers} (r : InRange l) where
   headed-length : length (headed l) ≡ blockLength
-  headed-length = head-length (length (l .sizes)) (l .scale) (length (l .firsts)) zeros ∙ length-replicate blockLength (pos 0)
+  headed-length = head-length (length (l .sizes)) (l .scale) (length (l .firsts)) freshBlock ∙ length-replicate blockLength (pos 0)
 
   sized-length : length (sized l) ≡ blockLength
   sized-length = sizes-length (l .sizes) (headed l) ∙ headed-length
@@ -103,7 +101,7 @@ module _ {l : Numbers} (r : InRange l) where
 
   -- what is not written is 0
   past-head : (p : ℕ) → constantPlace ≤ p → p < blockLength → at (headed l) p ≡ pos 0
-  past-head p h q = head-kept (length (l .sizes)) (l .scale) (length (l .firsts)) zeros p h ∙ getD-replicate blockLength p (pos 0) (pos 0) q
+  past-head p h q = head-kept (length (l .sizes)) (l .scale) (length (l .firsts)) freshBlock p h ∙ getD-replicate blockLength p (pos 0) (pos 0) q
 
   past-sizes : (p : ℕ) → sizePlace (length (l .sizes)) ≤ p → p < blockLength → at (sized l) p ≡ pos 0
   past-sizes p h q = sizes-kept (l .sizes) (headed l) p (λ i t e. omega arith) ∙ past-head p (omega arith) q
@@ -118,17 +116,17 @@ module _ {l : Numbers} (r : InRange l) where
   pub at-trains : at (loadedBlock l) trainsPlace ≡ pos (length (l .sizes))
   at-trains =
       before-sizes trainsPlace (omega arith)
-      ∙ head-trains (length (l .sizes)) (l .scale) (length (l .firsts)) zeros (omega (arith, length-replicate blockLength (pos 0)))
+      ∙ head-trains (length (l .sizes)) (l .scale) (length (l .firsts)) freshBlock (omega (arith, length-replicate blockLength (pos 0)))
 
   pub at-scale : at (loadedBlock l) scalePlace ≡ pos (l .scale)
   at-scale =
       before-sizes scalePlace (omega arith)
-      ∙ head-scale (length (l .sizes)) (l .scale) (length (l .firsts)) zeros (omega (arith, length-replicate blockLength (pos 0)))
+      ∙ head-scale (length (l .sizes)) (l .scale) (length (l .firsts)) freshBlock (omega (arith, length-replicate blockLength (pos 0)))
 
   pub at-pairs : at (loadedBlock l) pairsPlace ≡ pos (length (l .firsts))
   at-pairs =
       before-sizes pairsPlace (omega arith)
-      ∙ head-pairs (length (l .sizes)) (l .scale) (length (l .firsts)) zeros (omega (arith, length-replicate blockLength (pos 0)))
+      ∙ head-pairs (length (l .sizes)) (l .scale) (length (l .firsts)) freshBlock (omega (arith, length-replicate blockLength (pos 0)))
 
   pub at-constant : at (loadedBlock l) constantPlace ≡ pos 0
   at-constant = before-sizes constantPlace (omega arith) ∙ past-head constantPlace (omega arith) (omega arith)

@@ -3,8 +3,9 @@ use mathlib.Core.Path.{_≡_}
 use mathlib.Core.List.{List}
 use Prim.Native.Nat.{ℕ, _+_, _*_, _<_, _≤_}
 use lib.IntN.{ℤ, pos}
-use lib.ListN.{length, set, replicate}
-use Rattle.tables.specs.Block.{blockLength, maxTrains, maxChoices, maxPairs, maxCost, trainsPlace, scalePlace, pairsPlace, sizePlace, firstPlace, secondPlace, loadedChoicePlace, heldChoicePlace, loadedEntryPlace, heldEntryPlace}
+use lib.ListN.{length, set}
+use Rattle.tables.specs.Block.{maxTrains, maxChoices, maxPairs, maxCost, trainsPlace, scalePlace, pairsPlace, sizePlace, firstPlace, secondPlace, loadedChoicePlace, heldChoicePlace, loadedEntryPlace, heldEntryPlace}
+use Rattle.tables.specs.WellFormed.{freshBlock}
 use Rattle.tables.specs.Numbers.{Numbers, nth, choiceStart, rowsOf, entryStart}
 use Rattle.operations.specs.Fold.{iter}
 
@@ -41,7 +42,7 @@ loadedBlock l =
     entriesLoaded (l .scale) (l .sizes) (l .firsts) (l .seconds) (l .entries)
     (choicesLoaded (l .scale) (l .sizes) (l .choices)
     (pairsLoaded (l .firsts) (l .seconds)
-    (sizesLoaded (l .sizes) (headLoaded (length (l .sizes)) (l .scale) (length (l .firsts)) (replicate blockLength (pos 0))))))
+    (sizesLoaded (l .sizes) (headLoaded (length (l .sizes)) (l .scale) (length (l .firsts)) freshBlock))))
 
 -- ---- what the private functions of load.rt ask: each a part of `InRange`
 

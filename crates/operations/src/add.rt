@@ -7,8 +7,8 @@ ghost use Rattle.operations.specs.Add.{addOutcome, addBlock};
 use crate::outcome::Outcome;
 use tables::block;
 use tables::block::Block;
-use tables::units::Parts;
-use tables::units::Points;
+use units::Parts;
+use units::Points;
 
 // Adds points to choice a of train i: to its loaded cost, and in parts to its held cost.
 pub fn add(block: &mut [i64], i: usize, a: usize, points: Points) -> Outcome

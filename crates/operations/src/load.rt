@@ -3,15 +3,16 @@ ghost use mathlib.Core.Path.{_≡_};
 ghost use Prim.Native.Nat.{_+_, _*_, _<_, _≤_};
 ghost use lib.IntN.{pos};
 ghost use lib.ListN.{length, replicate};
-ghost use Rattle.tables.specs.Units.{Sound};
+ghost use Rattle.units.specs.Units.{Sound};
 ghost use Rattle.tables.specs.Block.{blockLength, maxTrains, maxChoices, maxPairs};
+ghost use Rattle.tables.specs.WellFormed.{freshBlock};
 ghost use Rattle.tables.specs.Numbers.{numbers, choiceStart, entryStart, InRange};
 ghost use Rattle.operations.specs.Load.{SizesIn, PairsIn, CostsIn, headLoaded, sizesLoaded, pairsLoaded, runLoaded, choicesLoaded, pairLoaded, entriesLoaded, loadedBlock};
 use tables::block;
 use tables::block::Block;
 use tables::places;
-use tables::units::Points;
-use tables::units::Scale;
+use units::Points;
+use units::Scale;
 
 // Sets every place to 0.
 fn clear(b: &mut [i64])
@@ -27,7 +28,7 @@ fn clear(b: &mut [i64])
 // Stores n, s and m in a cleared block.
 fn load_head(b: &mut [i64], n: usize, scale: Scale, m: usize)
     requires { ⌜ (length (now b) ≡ blockLength) × (n ≤ maxTrains) × (Sound scale) × (m ≤ maxPairs) ⌝ }
-    ensures { λ _. ⌜ now (b .exit) ≡ headLoaded n (scale .0) m (replicate blockLength (pos 0)) ⌝ }
+    ensures { λ _. ⌜ now (b .exit) ≡ headLoaded n (scale .0) m freshBlock ⌝ }
 {
     clear(b);
     block::put_trains(b, n);

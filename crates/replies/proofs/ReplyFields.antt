@@ -8,11 +8,11 @@ use native.Mathlib.Omega.{arith}
 use lib.IntN.{ℤ}
 use lib.ListN.{length}
 use Rattle.tables.specs.Block.{constant}
-use Rattle.lines.specs.declared.refusal.Refusal.{Refusal}
-use Rattle.lines.specs.Fields.{fieldDigits}
-use Rattle.lines.specs.Refusals.{refusalNumber}
-use Rattle.lines.proofs.RoundTrip.{digits-length}
 use Rattle.certificates.specs.declared.certify.Ceiling.{Ceiling}
+use Rattle.frames.specs.Fields.{fieldDigits}
+use Rattle.frames.proofs.RoundTrip.{digits-length}
+use Rattle.lines.specs.declared.refusal.Refusal.{Refusal}
+use Rattle.lines.specs.Refusals.{refusalNumber}
 use Rattle.search.specs.declared.answer.Found.{Found}
 use Rattle.replies.specs.Replies.{refusalByte, refusalReply, replyKind, figureWidth, boundOf, boundReply, flag, certifyReply, planDigits, shownCost, shownChoice, searchReply}
 use Rattle.replies.proofs.Writing.{digits-first}
@@ -62,6 +62,11 @@ module _ (f : Found) where
   search-fields n = simp digits-first
 
 -- ---- how long replies are
+
+-- a refusal has four characters
+pub refusal-length : (r : Refusal) → length (refusalReply r) ≡ 4
+unfolding refusalReply
+refusal-length r = omega (arith, digits-length 1 refusalByte (fieldDigits 1 (refusalNumber r) []), digits-length 1 (refusalNumber r) [])
 
 pub bound-length : (kind : ℕ) (b : List ℤ) → length (boundReply kind b) ≡ 26
 unfolding boundReply

@@ -5,12 +5,12 @@ use Prim.Native.Nat.{ℕ, zero, suc, _+_, _*_, _-_, _/_, _%_, _<_, _≤_}
 use native.Mathlib.Nat.{add-zero}
 use native.Mathlib.Numerals.{add-one}
 use native.Mathlib.Omega.{arith}
-use lib.ListN.{length, take, drop, set, length-append, take-append-drop}
-use lib.Seq.{sets-eq, take-at, drop-at, take-take, drop-drop, drop-append-add, length-take-le}
-use Rattle.lines.specs.Digits.{byteDigits}
-use Rattle.lines.specs.Fields.{fieldDigits}
-use Rattle.lines.proofs.RoundTrip.{digits-append, digits-length}
-use Rattle.replies.specs.Wrote.{Wrote}
+use lib.ListN.{length, take, drop, set, length-append, take-append-drop, getD}
+use lib.Seq.{sets-eq, take-at, drop-at, take-take, drop-drop, drop-append-add, length-take-le, getD-append-add, getD-drop}
+use Rattle.frames.specs.Digits.{byteDigits}
+use Rattle.frames.specs.Fields.{fieldDigits}
+use Rattle.frames.proofs.RoundTrip.{digits-append, digits-length}
+use Rattle.replies.specs.Wrote.{Wrote, written}
 
 -- ---- one byte
 
@@ -113,3 +113,7 @@ wrote-taken {d} {reply} o = rw (o .front, o .count) (take-at reply (drop (length
 
 pub wrote-length : {d reply b : List ℕ} {n : ℕ} → Wrote d reply b n → length (take n b) ≡ n
 wrote-length o = ap length (wrote-taken o) ∙ sym (o .count)
+
+-- what lies behind the reply stays
+pub written-behind : (reply buffer : List ℕ) (k : ℕ) → getD (written reply buffer) (length reply + k) 0 ≡ getD buffer (length reply + k) 0
+written-behind reply buffer k = getD-append-add reply (drop (length reply) buffer) k 0 ∙ getD-drop (length reply) buffer k 0

@@ -4,12 +4,12 @@ use mathlib.Core.List.{List, []}
 use Prim.Native.Nat.{ℕ, zero, suc, _+_, _-_, _^_}
 use lib.IntN.{ℤ}
 use lib.ListN.{getD}
-use Rattle.tables.specs.Units.{roundedUp}
+use Rattle.units.specs.Units.{roundedUp}
 use Rattle.tables.specs.Block.{scale, constant}
-use Rattle.lines.specs.declared.refusal.Refusal.{Refusal}
-use Rattle.lines.specs.Fields.{fieldDigits}
-use Rattle.lines.specs.Refusals.{refusalNumber}
 use Rattle.certificates.specs.declared.certify.Ceiling.{Ceiling}
+use Rattle.frames.specs.Fields.{fieldDigits}
+use Rattle.lines.specs.declared.refusal.Refusal.{Refusal}
+use Rattle.lines.specs.Refusals.{refusalNumber}
 use Rattle.search.specs.declared.answer.Found.{Found}
 
 -- 'A declined line answers FF and the number as one byte'

@@ -3,9 +3,9 @@ ghost use mathlib.Core.Path.{_≡_};
 ghost use mathlib.Core.List.{_++_};
 ghost use Prim.Native.Nat.{_+_, _*_, _<_, _≤_};
 ghost use lib.ListN.{length, take, drop};
-ghost use Rattle.lines.specs.Digits.{byteDigits};
-ghost use Rattle.lines.specs.Fields.{fieldDigits};
-use lines::digits;
+ghost use Rattle.frames.specs.Digits.{byteDigits};
+ghost use Rattle.frames.specs.Fields.{fieldDigits};
+use frames::digits;
 
 // Writes a byte as two digits, from character `at` on.
 fn put_byte(reply: &mut [u8], at: usize, byte: u8)

@@ -11,11 +11,11 @@ use lib.ListN.{length}
 use lib.Signed.{mag}
 use borrow.Author.Tests.{le-ltb}
 use Rattle.tables.specs.Block.{blockLength, maxTrains, maxChoices, maxPairs, maxParts, heldChoicesFrom, heldEntriesFrom, heldChoicePlace, heldEntryPlace, constantPlace, at, nat, figure, trains, pairs, size, first, second, heldChoice}
-use Rattle.tables.proofs.Study.{SameShape, same-figure, same-trains, same-size}
+use Rattle.tables.proofs.Study.{SameShape, same-figure, same-trains, same-size, figure-at}
 use Rattle.operations.specs.Fold.{iter}
+use Rattle.operations.proofs.Fold.{iter-ind, least-le, least-is}
 use Rattle.rewriting.specs.Moves.{Room, Shapely, moveRun}
 use Rattle.rewriting.specs.Tighten.{Natural, Filled, runLeast, runTightened, rowTightened, columnTightened, trainTightened, rowsTightened, columnsTightened, pairTightened, pairsTightened, trainsTightened, tightened}
-use Rattle.operations.proofs.Fold.{iter-ind, least-le, least-is}
 use Rattle.rewriting.proofs.Runs.{Met, Missed, meet, move-to, move-met, move-other}
 use Rattle.rewriting.proofs.Shape.{shapely-kept, filled-kept, unary, same-rows, same-columns, nat-room, Fair, project-fair, fair-run, Moved, none, move, moved-as, moved-shape, moved-more, moved-unary, rows-moved, columns-moved, trains-moved, pairs-moved}
 
@@ -218,10 +218,6 @@ pub record Zero (b c : List ℤ) (i : ℕ) : Type 0 where
 pub zero-as : {b d c : List ℤ} {i : ℕ} → size d i ≡ size b i → Zero d c i → Zero b c i
 zero-as e z = record { which = z .which; below = rw e at (z .below); is = z .is }
 
-is-figure : (c : List ℤ) (p n : ℕ) → at c p ≡ pos n → figure c p ≡ n
-unfolding figure
-is-figure c p n e = ap nat e
-
 -- the train whose turn it is gets one, and the others keep theirs
 train-zero : {c : List ℤ} → Shapely c → Filled c → ((p : ℕ) → at c p ≡ pos (figure c p)) → (i : ℕ) → i < trains c
     → Zero c (trainTightened i c) i × ((j : ℕ) → j < trains c → j ≢ i → Zero c c j → Zero c (trainTightened i c) j)
@@ -231,7 +227,7 @@ train-zero {c} s o natural i h =
     let m = run-least-met (heldChoicePlace i 0) 1 (size c i) c (o .sizes i h) in
     let p : heldChoicePlace i (m .turn) ≡ heldChoicePlace i 0 + 1 * m .turn = omega arith in
     let v = tight-met f c (s .whole) natural (heldChoicePlace i (m .turn)) (record { turn = m .turn; below = m .below; is = p }) in (
-      record { which = m .turn; below = m .below; is = omega (arith, is-figure (trainTightened i c) (heldChoicePlace i (m .turn)) (figure c (heldChoicePlace i (m .turn)) - runLeast (heldChoicePlace i 0) 1 (size c i) c) v, m .is, ap (figure c) p) },
+      record { which = m .turn; below = m .below; is = omega (arith, figure-at (trainTightened i c) (heldChoicePlace i (m .turn)) (figure c (heldChoicePlace i (m .turn)) - runLeast (heldChoicePlace i 0) 1 (size c i) c) v, m .is, ap (figure c) p) },
       λ j g n z. let q = s .sizes j (omega (arith, s .trains)) in record {
         which = z .which;
         below = z .below;

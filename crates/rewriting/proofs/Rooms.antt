@@ -9,12 +9,12 @@ use lib.ListN.{length}
 use lib.Signed.{mag}
 use Rattle.tables.specs.Sum.{sum}
 use Rattle.tables.specs.Block.{blockLength, maxTrains, maxPairs, at, trains, pairs, size, first, second}
+use Rattle.tables.specs.Ranges.{maxMove}
+use Rattle.tables.specs.Runs.{movesBefore}
 use Rattle.tables.proofs.Sum.{sum-more, sum-cong}
 use Rattle.tables.proofs.Study.{SameShape, same-pairs}
 use Rattle.operations.specs.Fold.{iter}
 use Rattle.rewriting.specs.Moves.{Room, Shapely, projectRow, projectColumn, projectUnary}
-use Rattle.tables.specs.Ranges.{maxMove}
-use Rattle.tables.specs.Runs.{movesBefore}
 use Rattle.rewriting.specs.Shift.{lifted, rowsShifted, columnsShifted, pairShifted, pairsShifted, shifted}
 use Rattle.rewriting.proofs.Runs.{room-more, move-room}
 use Rattle.rewriting.proofs.Shape.{same-rows, same-columns, project-fair, fair-run, Asked, Moved, none, move, moved-shape, moved-more, rows-moved, columns-moved, trains-moved, pairs-moved}

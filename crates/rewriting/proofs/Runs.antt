@@ -12,8 +12,8 @@ use lib.Seq.{getD-set-same, getD-set-other}
 use lib.Signed.{mag}
 use Rattle.tables.specs.Block.{at}
 use Rattle.tables.proofs.Range.{below-suc}
-use Rattle.rewriting.specs.Moves.{Room, RunIn, addAt, addRun, moveRun}
 use Rattle.operations.proofs.Fold.{iter-ind}
+use Rattle.rewriting.specs.Moves.{Room, RunIn, addAt, addRun, moveRun}
 use Rattle.rewriting.proofs.Words.{mag-plus, mag-neg}
 
 -- a wider room

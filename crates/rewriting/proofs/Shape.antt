@@ -11,14 +11,14 @@ use lib.Dec.{ltb, eqb}
 use lib.IntN.{ℤ, pos}
 use lib.ListN.{length, List·getD-eq-default}
 use lib.Signed.{mag}
-use Rattle.tables.specs.Units.{scaleMin, scaleMax}
+use Rattle.units.specs.Units.{scaleMin, scaleMax}
 use Rattle.tables.specs.Block.{blockLength, maxTrains, maxChoices, maxPairs, maxCost, maxParts, trainsPlace, scalePlace, pairsPlace, constantPlace, sizesFrom, firstsFrom, secondsFrom, loadedChoicesFrom, heldChoicesFrom, loadedEntriesFrom, heldEntriesFrom, heldChoicePlace, heldEntryPlace, at, figure, trains, pairs, size, first, second}
 use Rattle.tables.specs.WellFormed.{Limits, from-to, usedIf, choiceUsed, entryUsed, headLimits, shapeLimits, costLimits, limitsAt, Study}
 use Rattle.tables.proofs.Study.{study-place, trains-range, pairs-range, size-range, size-high, first-high, second-high, first-below-trains, second-below-trains, SameShape, same-trains, same-pairs, same-size, same-first, same-second}
 use Rattle.operations.specs.Fold.{iter}
+use Rattle.operations.proofs.Fold.{iter-ind}
 use Rattle.rewriting.specs.Moves.{Room, Shapely, RunIn, moveRun, projectRow, projectColumn, projectUnary}
 use Rattle.rewriting.specs.Tighten.{Natural, Filled}
-use Rattle.operations.proofs.Fold.{iter-ind}
 use Rattle.rewriting.proofs.Runs.{Missed, move-length, move-other}
 
 -- ---- a study

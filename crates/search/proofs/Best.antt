@@ -10,16 +10,16 @@ use lib.Dec.{leb}
 use lib.IntN.{ℤ}
 use lib.ListN.{getD, set}
 use borrow.Author.Tests.{leb-true, leb-false}
-use Rattle.tables.specs.Units.{theParts}
+use Rattle.units.specs.Units.{theParts}
 use Rattle.tables.specs.Block.{trains, size}
 use Rattle.tables.specs.WellFormed.{Study}
-use Rattle.tables.proofs.Range.{both-true}
+use Rattle.tables.proofs.Range.{both-true, not-both}
 use Rattle.tables.proofs.Study.{trains-range}
 use Rattle.search.specs.declared.steps.Walk.{Walk}
 use Rattle.search.specs.Walk.{choicesOf, added, partialTotal, Decided, counted, dropped, oneTry, triedFrom, choiceTry, openedTrain, noChoices}
 use Rattle.search.proofs.Written.{written}
 use Rattle.search.proofs.Totals.{partial-rises, partial-cong, decided-next}
-use Rattle.search.proofs.Tries.{try-cases, tries-keep, not-both}
+use Rattle.search.proofs.Tries.{try-cases, tries-keep}
 
 -- ---- a best is reached, and only improves
 

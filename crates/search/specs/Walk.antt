@@ -6,8 +6,8 @@ use Prim.Native.Nat.{ℕ, zero, suc, _+_, _*_, _-_, _≤_, _<_}
 use lib.Dec.{leb, eqb}
 use lib.IntN.{ℤ}
 use lib.ListN.{length, getD, set, replicate}
+use Rattle.units.specs.Units.{theParts}
 use Rattle.tables.specs.Sum.{sum}
-use Rattle.tables.specs.Units.{theParts}
 use Rattle.tables.specs.Block.{maxTrains, maxChoices, trains, pairs, constant, size, first, second, heldChoice, heldEntry}
 use Rattle.tables.specs.Ranges.{maxBudget}
 use Rattle.search.specs.declared.steps.Walk.{Walk}

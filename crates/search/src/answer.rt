@@ -1,7 +1,7 @@
 // Document 01, 'Replies', Search: the whole search, and what it answers.
 ghost use mathlib.Core.Path.{_≡_};
 ghost use Prim.Native.Nat.{_≤_, _<_, _^_};
-ghost use Rattle.tables.specs.Units.{Sound, published};
+ghost use Rattle.units.specs.Units.{Sound, published};
 ghost use Rattle.tables.specs.WellFormed.{Study};
 ghost use Rattle.tables.specs.Ranges.{maxBudget};
 ghost use Rattle.search.specs.Walk.{searched};
@@ -11,9 +11,9 @@ use crate::steps;
 use crate::steps::Walk;
 use crate::walk;
 use tables::block;
-use tables::units::Parts;
-use tables::units::Points;
-use tables::units::Scale;
+use units::Parts;
+use units::Points;
+use units::Scale;
 
 // What a search answers: whether the walk ended or was spent, its tries, and the best plan where one is known, with its total and its cost.
 pub struct Found {

@@ -8,7 +8,7 @@ ghost use Rattle.search.specs.Walk.{comesTo, Decided, Sums};
 ghost use Rattle.search.specs.Links.{Heads, Nexts};
 use tables::block;
 use tables::block::Block;
-use tables::units::Parts;
+use units::Parts;
 
 // The partial total with each choice's own cost.
 fn choice_sums(b: &[i64], t: usize, partial: Parts) -> [u64; 8]

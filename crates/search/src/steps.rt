@@ -6,7 +6,7 @@ ghost use lib.ListN.{set};
 ghost use Rattle.tables.specs.Block.{maxTrains, maxChoices};
 ghost use Rattle.tables.specs.Ranges.{maxBudget};
 ghost use Rattle.search.specs.Walk.{nothingTried, counted, markedSpent, wholePlan, dropped};
-use tables::units::Parts;
+use units::Parts;
 
 // What a walk has so far: the tries counted, whether the budget ran out, and the best plan with its total.
 pub struct Walk {

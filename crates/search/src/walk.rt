@@ -7,7 +7,7 @@ use crate::costs;
 use crate::steps;
 use crate::steps::Walk;
 use tables::block;
-use tables::units::Parts;
+use units::Parts;
 
 // Opens train t: what its choices come to is summed once, then they are tried, from 0 on.
 pub fn open_train(

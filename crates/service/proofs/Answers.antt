@@ -1,110 +1,21 @@
--- What an answer leaves: a declined call leaves the block, certify and search do too, and the reply does not depend on what lies in the buffer.
-use mathlib.Core.Path.{_≡_, refl, _∙_}
-use mathlib.Core.Bool.{Bool, true, false, cond}
-use mathlib.Core.List.{List, []}
-use mathlib.Core.Logic.{_⊎_, inl, inr}
-use Prim.Native.Nat.{ℕ, _+_, _-_, _<_, _≤_}
-use native.Mathlib.Omega.{arith}
-use lib.Dec.{ltb}
+-- What an answer does not depend on, and what leaves the block: a buffer that is large enough decides nothing, lines over the limit are answered alike, certificates leave the block.
+use mathlib.Core.Path.{_≡_, refl}
+use mathlib.Core.List.{List}
+use Prim.Native.Nat.{ℕ, _-_, _<_, _≤_}
 use lib.IntN.{ℤ}
-use lib.ListN.{length, getD, drop}
-use lib.Seq.{getD-append-add, getD-drop}
+use lib.ListN.{length}
 use borrow.Author.Tests.{lt-ltb, le-ltb}
-use Rattle.tables.specs.Block.{trains}
-use Rattle.tables.specs.WellFormed.{wellFormed}
-use Rattle.lines.specs.declared.refusal.Refusal.{Refusal}
-use Rattle.lines.specs.declared.refusal.Refusal.the-variants.{CostAbove, PartsOutside, Sums, Malformed}
-use Rattle.lines.specs.declared.request.Request.{Request}
-use Rattle.lines.specs.declared.request.Request.the-variants.{Load, Add, Shift, Tighten, Certify, Search}
-use Rattle.lines.specs.declared.request.Line.{Line}
-use Rattle.lines.specs.declared.request.Line.the-variants.{Asked, Refused}
-use Rattle.lines.specs.Refusals.{refusalNumber}
-use Rattle.lines.specs.Frames.{maxCharacters}
-use Rattle.lines.specs.Fields.{fieldDigits}
-use Rattle.lines.specs.Layout.{moveWidth, weightWidth}
-use Rattle.lines.specs.Numbers.{runOf, signedRunOf, numbersOf}
-use Rattle.lines.specs.Reading.{lineOf}
-use Rattle.lines.proofs.RoundTrip.{digits-length}
-use Rattle.operations.specs.declared.outcome.Outcome.{Outcome}
-use Rattle.operations.specs.declared.outcome.Outcome.the-variants.{Done, CostAbove as cost-above, PartsOutside as parts-outside}
-use Rattle.operations.specs.Add.{addOutcome, addBlock}
-use Rattle.operations.specs.Load.{loadedBlock}
-use Rattle.rewriting.specs.Shift.{shiftOutcome, shiftBlock}
-use Rattle.rewriting.specs.Tighten.{tightenOutcome, tightenBlock}
 use Rattle.certificates.specs.declared.certify.Certificate.{Certificate}
 use Rattle.certificates.specs.declared.certify.Certificate.the-variants.{Unbalanced, Balanced}
-use Rattle.certificates.specs.Certify.{weightsOf, certificate}
-use Rattle.search.specs.Answer.{searchAnswer}
-use Rattle.replies.specs.Replies.{refusalByte, refusalReply}
-use Rattle.replies.specs.Wrote.{minBuffer, written}
-use Rattle.service.specs.Answer.{Answer, answered, declined, operated, certified, requested, lineAnswer, answer}
-use Rattle.service.specs.Ledger.{accepted}
-use Rattle.service.proofs.Lines.{clash}
-use Rattle.service.proofs.ReadBack.{bound-accepted, certify-accepted, search-accepted}
+use Rattle.frames.specs.Frames.{maxCharacters}
+use Rattle.reader.specs.Reading.{lineOf}
+use Rattle.replies.specs.Wrote.{minBuffer}
+use Rattle.service.specs.Answer.{answered, declined, certified, answer}
 
--- a declined answer: the block is as it was, and the reply is empty (17) or a refusal's two bytes
-pub record Refuses (reply : List ℕ) : Type 0 where
-  pub refusal : Refusal
-  pub is : reply ≡ refusalReply refusal
-
-pub record Declines (b : List ℤ) (a : Answer) : Type 0 where
-  pub block : a .block ≡ b
-  pub reply : (a .reply ≡ []) ⊎ Refuses (a .reply)
-
--- an accepted answer, or a declined one
-abbrev Either : List ℤ → Answer → Type 0
-Either b a = (accepted (a .reply) ≡ true) ⊎ Declines b a
-
-either-declined : (b : List ℤ) (r : Refusal) → Either b (declined b r)
-either-declined b r = inr (record { block = refl; reply = inr (record { refusal = r; is = refl }) })
-
-either-operated : (kind : ℕ) (o : Outcome) (old new : List ℤ) → kind < 100 → Either old (operated kind o old new)
-either-operated kind Done old new h = inl (bound-accepted kind new h)
-either-operated kind cost-above old new h = either-declined old CostAbove
-either-operated kind parts-outside old new h = either-declined old PartsOutside
-
-either-certified : (whole : ℕ) (c : Certificate) (b : List ℤ) → Either b (certified whole c b)
-either-certified whole Unbalanced b = either-declined b Sums
-either-certified whole (Balanced c) b = inl (certify-accepted whole c)
-
-module _ (l : List ℕ) (b : List ℤ) where
-  either-requested : (q : Request) → Either b (requested q l b)
-  unfolding requested
-  either-requested (Load q) = inl (bound-accepted 1 (loadedBlock (numbersOf l)) (omega arith))
-  either-requested (Add q) = either-operated 2 (addOutcome (q .train) (q .choice) (q .points) b) b (addBlock (q .train) (q .choice) (q .points) b) (omega arith)
-  either-requested (Shift q) =
-      let lifts = signedRunOf l (q .lifts .at) moveWidth (q .lifts .count) in
-      let moves = signedRunOf l (q .moves .at) moveWidth (q .moves .count) in
-      either-operated 3 (shiftOutcome lifts moves b) b (shiftBlock lifts moves b) (omega arith)
-  either-requested Tighten = either-operated 4 (tightenOutcome b) b (tightenBlock b) (omega arith)
-  either-requested (Certify q) = either-certified (q .whole) (certificate b (weightsOf b (q .whole) (runOf l (q .weights .at) weightWidth (q .weights .count)))) b
-  either-requested (Search q) = inl (search-accepted (trains b) (searchAnswer b (q .budget)))
-
-  either-line : (x : Line) → Either b (lineAnswer x l b)
-  either-line (Asked q) = either-requested q
-  either-line (Refused r) = either-declined b r
-
-  either-answer : (buffer : List ℕ) → Either b (answer l b buffer)
-  unfolding answer
-  either-answer buffer = go (ltb (length buffer) minBuffer) (wellFormed b)
-    where
-      go : (t u : Bool) → Either b (cond t (answered b []) (cond u (lineAnswer (lineOf l b) l b) (declined b Malformed)))
-      go true u = inr (record { block = refl; reply = inl refl })
-      go false true = either-line (lineOf l b)
-      go false false = either-declined b Malformed
-
-  -- a call that is not accepted leaves the block as it was, and writes nothing but its two bytes
-  pub declined-leaves : (buffer : List ℕ) → accepted (answer l b buffer .reply) ≡ false → Declines b (answer l b buffer)
-  declined-leaves buffer e = go (either-answer buffer)
-    where
-      go : Either b (answer l b buffer) → Declines b (answer l b buffer)
-      go (inl a) = absurd (clash a e)
-      go (inr d) = d
-
-  -- a buffer of 72 bytes or more decides nothing
-  pub buffer-apart : (u v : List ℕ) → minBuffer ≤ length u → minBuffer ≤ length v → answer l b u ≡ answer l b v
-  unfolding answer
-  buffer-apart u v p q = rw (le-ltb (length u) minBuffer p, le-ltb (length v) minBuffer q)
+-- a buffer of 72 bytes or more decides nothing
+pub buffer-apart : (l : List ℕ) (b : List ℤ) (u v : List ℕ) → minBuffer ≤ length u → minBuffer ≤ length v → answer l b u ≡ answer l b v
+unfolding answer
+buffer-apart l b u v p q = rw (le-ltb (length u) minBuffer p, le-ltb (length v) minBuffer q)
 
 -- lines over the limit are all answered alike
 pub long-alike : (l k : List ℕ) (b : List ℤ) (d : List ℕ) → maxCharacters < length l → maxCharacters < length k → answer l b d ≡ answer k b d
@@ -115,12 +26,3 @@ long-alike l k b d g h = rw (lt-ltb maxCharacters (length l) g, lt-ltb maxCharac
 pub certified-leaves : (whole : ℕ) (c : Certificate) (b : List ℤ) → certified whole c b .block ≡ b
 certified-leaves whole Unbalanced b = refl
 certified-leaves whole (Balanced c) b = refl
-
--- what lies behind the reply stays
-pub written-behind : (reply buffer : List ℕ) (k : ℕ) → getD (written reply buffer) (length reply + k) 0 ≡ getD buffer (length reply + k) 0
-written-behind reply buffer k = getD-append-add reply (drop (length reply) buffer) k 0 ∙ getD-drop (length reply) buffer k 0
-
--- a refusal has four characters
-pub refusal-length : (r : Refusal) → length (refusalReply r) ≡ 4
-unfolding refusalReply
-refusal-length r = omega (arith, digits-length 1 refusalByte (fieldDigits 1 (refusalNumber r) []), digits-length 1 (refusalNumber r) [])

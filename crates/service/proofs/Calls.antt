@@ -11,15 +11,6 @@ use borrow.Author.Tests.{lt-ltb, le-ltb, ltb-false}
 use Rattle.tables.specs.Block.{trains}
 use Rattle.tables.specs.WellFormed.{wellFormed}
 use Rattle.tables.proofs.Study.{trains-range}
-use Rattle.lines.specs.declared.refusal.Refusal.{Refusal}
-use Rattle.lines.specs.declared.refusal.Refusal.the-variants.{CostAbove, PartsOutside, Sums, Malformed}
-use Rattle.lines.specs.declared.request.Request.{Request}
-use Rattle.lines.specs.declared.request.Request.the-variants.{Load, Add, Shift, Tighten, Certify, Search}
-use Rattle.lines.specs.declared.request.Line.{Line}
-use Rattle.lines.specs.declared.request.Line.the-variants.{Asked, Refused}
-use Rattle.lines.specs.Layout.{moveWidth, weightWidth}
-use Rattle.lines.specs.Numbers.{runOf, signedRunOf, numbersOf}
-use Rattle.lines.specs.Reading.{lineOf}
 use Rattle.operations.specs.declared.outcome.Outcome.{Outcome}
 use Rattle.operations.specs.declared.outcome.Outcome.the-variants.{Done, CostAbove as cost-above, PartsOutside as parts-outside}
 use Rattle.operations.specs.Add.{addOutcome, addBlock}
@@ -29,14 +20,23 @@ use Rattle.rewriting.specs.Tighten.{tightenOutcome, tightenBlock}
 use Rattle.certificates.specs.declared.certify.Certificate.{Certificate}
 use Rattle.certificates.specs.declared.certify.Certificate.the-variants.{Unbalanced, Balanced}
 use Rattle.certificates.specs.Certify.{weightsOf, certificate}
+use Rattle.frames.specs.Runs.{runOf, signedRunOf}
+use Rattle.lines.specs.declared.refusal.Refusal.{Refusal}
+use Rattle.lines.specs.declared.refusal.Refusal.the-variants.{CostAbove, PartsOutside, Sums, Malformed}
+use Rattle.lines.specs.declared.request.Request.{Request}
+use Rattle.lines.specs.declared.request.Request.the-variants.{Load, Add, Shift, Tighten, Certify, Search}
+use Rattle.lines.specs.declared.request.Line.{Line}
+use Rattle.lines.specs.declared.request.Line.the-variants.{Asked, Refused}
+use Rattle.lines.specs.Layout.{moveWidth, weightWidth}
+use Rattle.lines.specs.Numbers.{numbersOf}
+use Rattle.reader.specs.Reading.{lineOf}
 use Rattle.search.specs.Answer.{searchAnswer}
 use Rattle.replies.specs.Replies.{refusalReply}
 use Rattle.replies.specs.Wrote.{minBuffer, Wrote}
 use Rattle.replies.proofs.Writing.{wrote-none}
-use Rattle.replies.proofs.ReplyFields.{bound-length, certify-length, search-length}
+use Rattle.replies.proofs.ReplyFields.{bound-length, certify-length, search-length, refusal-length}
 use Rattle.service.specs.Answer.{answered, declined, operated, certified, requested, lineAnswer, answer}
 use Rattle.service.specs.Wrote.{Answers, Asks}
-use Rattle.service.proofs.Answers.{refusal-length}
 use Rattle.service.proofs.Ready.{search-ready}
 
 module _ (l : List ℕ) (b : List ℤ) (d : List ℕ) where

@@ -7,9 +7,18 @@ use Prim.Native.Nat.{ℕ}
 use native.Mathlib.Omega.{arith}
 use lib.IntN.{ℤ}
 use Rattle.tables.specs.WellFormed.{holdsStudy}
+use Rattle.tables.specs.Block.{trains}
+use Rattle.tables.specs.Numbers.{Numbers}
 use Rattle.operations.specs.declared.outcome.Outcome.{Outcome}
 use Rattle.operations.specs.declared.outcome.Outcome.the-variants.{Done, CostAbove, PartsOutside}
+use Rattle.operations.specs.Add.{addOutcome, addBlock}
+use Rattle.operations.specs.Load.{loadedBlock}
 use Rattle.rewriting.specs.Outcome.{judged, judgedBlock}
+use Rattle.rewriting.specs.Tighten.{tightenOutcome, tightenBlock}
+use Rattle.rewriting.specs.Shift.{shifted, shiftOutcome, shiftBlock}
+use Rattle.certificates.specs.declared.certify.Certificate.{Certificate}
+use Rattle.certificates.specs.Certify.{weightsOf, certificate}
+use Rattle.frames.specs.Runs.{runOf, signedRunOf}
 use Rattle.lines.specs.declared.request.Load.{Load}
 use Rattle.lines.specs.declared.request.Add.{Add}
 use Rattle.lines.specs.declared.request.Shift.{Shift}
@@ -17,18 +26,10 @@ use Rattle.lines.specs.declared.request.Search.{Search}
 use Rattle.lines.specs.declared.request.Certify.{Certify}
 use Rattle.lines.specs.declared.request.Request.the-variants.{Load as load-of, Add as add-of, Shift as shift-of, Tighten as tighten-of, Certify as certify-of, Search as search-of}
 use Rattle.lines.specs.Layout.{moveWidth, weightWidth}
-use Rattle.lines.specs.Numbers.{runOf, signedRunOf, numbersOf}
-use Rattle.operations.specs.Add.{addOutcome, addBlock}
-use Rattle.operations.specs.Load.{loadedBlock}
-use Rattle.rewriting.specs.Tighten.{tightenOutcome, tightenBlock}
+use Rattle.lines.specs.Numbers.{numbersOf}
 use Rattle.search.specs.Answer.{searchAnswer}
-use Rattle.tables.specs.Block.{trains}
-use Rattle.rewriting.specs.Shift.{shifted, shiftOutcome, shiftBlock}
-use Rattle.tables.specs.Numbers.{Numbers}
 use Rattle.replies.specs.Replies.{boundReply, searchReply}
 use Rattle.replies.specs.Wrote.{Wrote}
-use Rattle.certificates.specs.declared.certify.Certificate.{Certificate}
-use Rattle.certificates.specs.Certify.{weightsOf, certificate}
 use Rattle.service.specs.Answer.{operated, certified, requested}
 use Rattle.service.specs.Wrote.{Answers}
 use Rattle.service.proofs.Answers.{certified-leaves}

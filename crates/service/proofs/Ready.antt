@@ -14,13 +14,23 @@ use lib.IntN.{ℤ, pos, negsuc, natAbs}
 use lib.ListN.{length, take, replicate, length-replicate}
 use lib.Seq.{length-take-le}
 use lib.Signed.{mag}
+use Rattle.units.specs.Units.{scaleMin, scaleMax}
 use Rattle.tables.specs.Block.{blockLength, maxTrains, maxChoices, maxPairs, entriesOfPair, trains}
 use Rattle.tables.specs.Numbers.{Numbers, InRange, numbers}
 use Rattle.tables.specs.Ranges.{maxMove, maxWhole, maxBudget}
-use Rattle.tables.specs.Units.{scaleMin, scaleMax}
 use Rattle.tables.specs.WellFormed.{fresh, holdsStudy, wellFormed, Study}
 use Rattle.tables.proofs.Range.{both-true}
 use Rattle.tables.proofs.Study.{study-of, trains-range}
+use Rattle.operations.specs.Load.{loadedBlock}
+use Rattle.operations.proofs.Loaded.{load-study}
+use Rattle.rewriting.specs.Shift.{SmallMoves}
+use Rattle.certificates.specs.Certify.{WeightsFor}
+use Rattle.frames.specs.Digits.{bytes}
+use Rattle.frames.specs.Fields.{field, signedField}
+use Rattle.frames.specs.Frames.{maxCharacters, framed, Framed}
+use Rattle.frames.specs.Runs.{listOf, runOf, signedRunOf}
+use Rattle.frames.proofs.Lists.{list-length, list-nth, list-past}
+use Rattle.frames.proofs.Widths.{signed-low}
 use Rattle.lines.specs.declared.refusal.Refusal.the-variants.{Range}
 use Rattle.lines.specs.declared.request.Load.{Load}
 use Rattle.lines.specs.declared.request.Add.{Add}
@@ -30,24 +40,18 @@ use Rattle.lines.specs.declared.request.Search.{Search}
 use Rattle.lines.specs.declared.request.Request.{Request}
 use Rattle.lines.specs.declared.request.Request.the-variants.{Load as load-of, Add as add-of, Shift as shift-of, Tighten as tighten-of, Certify as certify-of, Search as search-of}
 use Rattle.lines.specs.declared.request.Verdict.the-variants.{Fine}
-use Rattle.lines.specs.Digits.{bytes}
-use Rattle.lines.specs.Fields.{field, signedField}
-use Rattle.lines.specs.Frames.{maxCharacters, framed, Framed}
 use Rattle.lines.specs.Layout.{costWidth, moveWidth, weightWidth, loadTrains, loadScale, loadSize, sizesAt, choicesAt, choiceCount, pairCountAt, loadPairs, loadFirst, loadSecond, pairAt, addTrain, addChoice, addPoints, liftsAt, movesAt, certifyWhole, weightsAt, searchBudget}
-use Rattle.lines.specs.Numbers.{listOf, runOf, signedRunOf, entriesOf, numbersOf}
-use Rattle.lines.specs.Reading.{run, moveCount, weightCount, loadVerdict}
-use Rattle.lines.proofs.Accepted.{FineLoad, load-fine, load-sized, load-pair, add-fine, shift-fine, certify-fine, search-fine}
-use Rattle.lines.proofs.Held.{held-choices-most, move-count-most, held-entries-most}
+use Rattle.lines.specs.Numbers.{entriesOf, numbersOf}
+use Rattle.lines.specs.Verdicts.{run, loadVerdict}
+use Rattle.lines.proofs.LoadAccepted.{FineLoad, load-fine, load-sized, load-pair}
 use Rattle.lines.proofs.Judged.{field-within}
-use Rattle.lines.proofs.LineAccepted.{Makes, line-makes, frame-length, add-there, weight-below}
 use Rattle.lines.proofs.LoadFields.{head-fine, choice-count-most, entry-count-most, pair-next, pair-start, pair-ordered}
 use Rattle.lines.proofs.LoadRange.{load-in-range}
-use Rattle.lines.proofs.Runs.{list-length, list-nth, list-past, entries-none, entries-length}
-use Rattle.lines.proofs.Widths.{signed-low}
-use Rattle.operations.specs.Load.{loadedBlock}
-use Rattle.rewriting.specs.Shift.{SmallMoves}
-use Rattle.operations.proofs.Loaded.{load-study}
-use Rattle.certificates.specs.Certify.{WeightsFor}
+use Rattle.lines.proofs.Entries.{entries-none, entries-length}
+use Rattle.reader.specs.Reading.{moveCount, weightCount}
+use Rattle.reader.proofs.Accepted.{add-fine, shift-fine, certify-fine, search-fine}
+use Rattle.reader.proofs.Held.{held-choices-most, move-count-most, held-entries-most}
+use Rattle.reader.proofs.LineAccepted.{Makes, line-makes, frame-length, add-there, weight-below}
 use Rattle.service.specs.Wrote.{Asks, Adds}
 
 module _ {l : List ℕ} {b : List ℤ} {q : Request} {buffer : List ℕ} (a : Asks l b q buffer) where

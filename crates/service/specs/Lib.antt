@@ -1,4 +1,2 @@
 pub mod Answer
 pub mod Wrote
-pub mod Ledger
-pub mod Claims

@@ -10,7 +10,7 @@ use Rattle.tables.specs.WellFormed.{wellFormed, Study}
 use Rattle.lines.specs.declared.request.Add.{Add}
 use Rattle.lines.specs.declared.request.Request.{Request}
 use Rattle.lines.specs.declared.request.Line.the-variants.{Asked}
-use Rattle.lines.specs.Reading.{lineOf}
+use Rattle.reader.specs.Reading.{lineOf}
 use Rattle.replies.specs.Wrote.{minBuffer, Wrote}
 use Rattle.service.specs.Answer.{Answer}
 

@@ -3,7 +3,6 @@ ghost use mathlib.Core.Path.{_≡_};
 ghost use Rattle.service.specs.Answer.{answer};
 ghost use Rattle.service.specs.Wrote.{Answers};
 use crate::requests;
-use lines::reader;
 use lines::refusal::Refusal;
 use lines::request::Line;
 use replies::replies::write_refusal;

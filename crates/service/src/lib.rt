@@ -1,3 +1,3 @@
-// The answer to a call: what each request does. The definition of the answer and what is claimed of lists of calls stand in specs/.
+// The answer to a call: what each request does. The definition of the answer stands in specs/.
 pub mod entry;
 mod requests;

@@ -5,13 +5,13 @@ ghost use lib.ListN.{length};
 ghost use Rattle.tables.specs.WellFormed.{Study};
 ghost use Rattle.tables.specs.Ranges.{maxBudget};
 ghost use Rattle.tables.specs.Block.{trains};
+ghost use Rattle.operations.specs.Add.{addOutcome, addBlock};
+ghost use Rattle.rewriting.specs.Tighten.{tightenOutcome, tightenBlock};
 ghost use Rattle.lines.specs.declared.request.Request.the-variants.{Load as load-of, Shift as shift-of, Certify as certify-of};
 ghost use Rattle.lines.specs.declared.request.Verdict.the-variants.{Fine};
 ghost use Rattle.lines.specs.Layout.{loadPairs, pairAt};
 ghost use Rattle.lines.specs.Numbers.{entriesOf};
-ghost use Rattle.lines.specs.Reading.{loadVerdict};
-ghost use Rattle.operations.specs.Add.{addOutcome, addBlock};
-ghost use Rattle.rewriting.specs.Tighten.{tightenOutcome, tightenBlock};
+ghost use Rattle.lines.specs.Verdicts.{loadVerdict};
 ghost use Rattle.search.specs.Answer.{searchAnswer};
 ghost use Rattle.replies.specs.Replies.{searchReply};
 ghost use Rattle.replies.specs.Wrote.{minBuffer, Wrote};
@@ -19,6 +19,7 @@ ghost use Rattle.service.specs.Answer.{operated, requested};
 ghost use Rattle.service.specs.Wrote.{Answers, Asks, Adds};
 use certificates::certify;
 use certificates::certify::Certificate;
+use frames::runs;
 use lines::decode;
 use lines::refusal::Refusal;
 use lines::request::Add;
@@ -39,8 +40,8 @@ use rewriting::tighten;
 use search::answer;
 use tables::block;
 use tables::block::Block;
-use tables::units::Points;
-use tables::units::Scale;
+use units::Points;
+use units::Scale;
 
 // The most choice costs of a load.
 const CHOICE_COSTS: usize = Block::TRAINS * Block::CHOICES;
@@ -101,7 +102,7 @@ fn certify_with(
     requires { ⌜ Asks (now line) (now block) (certify-of q) (now reply) × (length (now weights) ≡ q .weights .count) ⌝ }
     ensures { λ r. ⌜ Wrote (now (reply .entry)) (requested (certify-of q) (now (line .entry)) (now (block .entry)) .reply) (now (reply .exit)) r ⌝ }
 {
-    decode::decode(line, q.weights.at, Certify::WEIGHT_WIDTH, weights);
+    runs::decode(line, q.weights.at, Certify::WEIGHT_WIDTH, weights);
     match certify::certify(block, q.whole, weights) {
         Certificate::Unbalanced => write_refusal(reply, Refusal::Sums),
         Certificate::Balanced(c) => write_certify(reply, q.whole, c),
@@ -130,8 +131,8 @@ fn shift_with(
     requires { ⌜ Asks (now line) (now block) (shift-of q) (now reply) × (length (now lifts) ≡ q .lifts .count) × (length (now moves) ≡ q .moves .count) ⌝ }
     ensures { λ r. ⌜ Answers (requested (shift-of q) (now (line .entry)) (now (block .entry))) (now (reply .entry)) (now (block .exit)) (now (reply .exit)) r ⌝ }
 {
-    decode::decode_signed(line, q.lifts.at, Shift::MOVE_WIDTH, lifts);
-    decode::decode_signed(line, q.moves.at, Shift::MOVE_WIDTH, moves);
+    runs::decode_signed(line, q.lifts.at, Shift::MOVE_WIDTH, lifts);
+    runs::decode_signed(line, q.moves.at, Shift::MOVE_WIDTH, moves);
     let outcome = shift::shift(block, lifts, moves);
     write_outcome(reply, 3, outcome, block)
 }
@@ -165,8 +166,8 @@ fn load_with(
     requires { ⌜ (length (now firsts) ≡ q .pairs .count) × (length (now seconds) ≡ q .pairs .count) × (length (now entries) ≡ length (entriesOf (now line) (loadPairs (now line)))) ⌝ }
     ensures { λ r. ⌜ Answers (requested (load-of q) (now (line .entry)) (now (block .entry))) (now (reply .entry)) (now (block .exit)) (now (reply .exit)) r ⌝ }
 {
-    decode::decode(line, q.sizes.at, 1, sizes);
-    decode::decode(line, q.choices.at, Load::COST_WIDTH, choices);
+    runs::decode(line, q.sizes.at, 1, sizes);
+    runs::decode(line, q.choices.at, Load::COST_WIDTH, choices);
     decode::decode_pairs(line, q.pairs.at, firsts, seconds, entries);
     let scale = Scale::known(q.scale);
     load::load(block, scale, sizes, choices, firsts, seconds, entries);

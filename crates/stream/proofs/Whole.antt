@@ -10,11 +10,12 @@ use lib.IntN.{ℤ}
 use lib.ListN.{length, take, drop, length-take, length-drop, drop-of-length-le}
 use lib.Seq.{take-all, take-take, take-append-le, length-take-le}
 use borrow.Author.Tests.{ltb-true, ltb-false, ne-eqb}
-use Rattle.lines.specs.Frames.{maxCharacters}
-use Rattle.service.specs.Claims.{Demand}
-use Rattle.service.specs.Ledger.{freshBlock, entries}
-use Rattle.service.proofs.Demand.{demand}
+use Rattle.tables.specs.WellFormed.{freshBlock}
+use Rattle.frames.specs.Frames.{maxCharacters}
 use Rattle.service.proofs.Answers.{long-alike}
+use Rattle.claims.specs.Claims.{Demand}
+use Rattle.claims.specs.Ledger.{entries}
+use Rattle.claims.proofs.Demand.{demand}
 use Rattle.stream.specs.Session.{lineFeed, lineCall, lineCalls, linesFrom, inputLines, replyLines, printed}
 use Rattle.stream.specs.Parts.{lineLength, keptMost, lengthened, answerLine, Shown, steps, lastLine, byParts, joined}
 use Rattle.stream.proofs.Steps.{next-open, next-ended}

@@ -6,7 +6,7 @@ use Prim.Native.Nat.{ℕ, zero, suc, _+_}
 use lib.Dec.{ltb, eqb}
 use lib.IntN.{ℤ}
 use lib.ListN.{length, take, drop}
-use Rattle.lines.specs.Frames.{maxCharacters}
+use Rattle.frames.specs.Frames.{maxCharacters}
 use Rattle.service.specs.Answer.{Answer, answered, answer}
 use Rattle.stream.specs.Session.{lineFeed, lineCall}
 

@@ -5,8 +5,9 @@ use mathlib.Core.List.{List, [], _∷_, _++_, map}
 use Prim.Native.Nat.{ℕ}
 use lib.Dec.{eqb}
 use lib.ListN.{length, replicate}
+use Rattle.tables.specs.WellFormed.{freshBlock}
 use Rattle.replies.specs.Wrote.{minBuffer}
-use Rattle.service.specs.Ledger.{Call, Entry, freshBlock, entries}
+use Rattle.claims.specs.Ledger.{Call, Entry, entries}
 
 -- 'line end': a line feed
 abbrev pub lineFeed : ℕ

@@ -6,7 +6,7 @@ ghost use lib.Seq.{paste};
 ghost use Rattle.service.specs.Wrote.{Answers};
 ghost use Rattle.stream.specs.Parts.{lineLength, keptMost, answerLine, nextLine};
 ghost use Rattle.stream.specs.Steps.{Steps};
-use lines::frame::Frame;
+use frames::frame::Frame;
 use service::entry;
 
 pub const LINE_FEED: u8 = 10;

@@ -2,7 +2,6 @@
 pub mod Signed
 pub mod Range
 pub mod Sum
-pub mod Bound
 pub mod Limits
 pub mod Rows
 pub mod Study

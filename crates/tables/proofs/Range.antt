@@ -15,6 +15,9 @@ pub both-true : (a b : Bool) → a && b ≡ true → (a ≡ true) × (b ≡ true
 both-true true b e = (refl, e)
 both-true false b e = let z : _≡_ {A = ℕ} 0 1 = cc in absurd (omega arith)
 
+pub not-both : {t : Bool} → t ≡ true → t ≡ false → ⊥
+not-both e f = let z : _≡_ {A = ℕ} 0 1 = cc in omega arith
+
 -- what a call's answer r says of the test t that it stands for, where the code asks `!r`
 pub refused : {r t : Bool} → r ≡ t → not r ≡ true → t ≡ false
 refused e f = sym e ∙ not-true _ f

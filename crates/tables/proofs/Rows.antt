@@ -9,8 +9,8 @@ use lib.Dec.{leb, ltb, eqb}
 use lib.IntN.{ℤ, pos, negsuc}
 use lib.ListN.{length}
 use borrow.Author.Tests.{lt-ltb, le-ltb, eq-eqb, eqb-true, leb-true}
+use Rattle.units.specs.Units.{scaleMin, scaleMax}
 use Rattle.tables.specs.Range.{all}
-use Rattle.tables.specs.Units.{scaleMin, scaleMax}
 use Rattle.tables.specs.Block.{blockLength, maxTrains, maxChoices, maxPairs, maxCost, maxParts, trainsPlace, scalePlace, pairsPlace, constantPlace, sizePlace, firstPlace, secondPlace, sizesFrom, firstsFrom, secondsFrom, loadedChoicesFrom, heldChoicesFrom, loadedEntriesFrom, heldEntriesFrom, entriesOfPair, at, figure, trains, pairs, size, first, second}
 use Rattle.tables.specs.WellFormed.{Limits, from-to, within, usedIf, choiceUsed, entryUsed, headLimits, limitsAt, placeRight, placesRight, isZero, fresh}
 use Rattle.tables.specs.Rows.{runWithin, rowWithin, rightAt, headRight, shapeRight, choicesUsed, choicesWithin, entriesUsed, pairWithin, entriesWithin}

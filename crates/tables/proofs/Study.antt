@@ -11,7 +11,7 @@ use lib.IntN.{ℤ, pos}
 use lib.ListN.{length, set, length-set}
 use lib.Seq.{getD-set-same, getD-set-other}
 use borrow.Author.Tests.{lt-ltb, ltb-true, eq-eqb, ne-eqb, eqb-true}
-use Rattle.tables.specs.Units.{scaleMin, scaleMax}
+use Rattle.units.specs.Units.{scaleMin, scaleMax}
 use Rattle.tables.specs.Block.{blockLength, maxTrains, maxChoices, maxPairs, maxCost, maxParts, constantPlace, sizePlace, firstPlace, secondPlace, entriesOfPair, loadedChoicesFrom, heldChoicesFrom, loadedEntriesFrom, heldEntriesFrom, loadedChoicePlace, heldChoicePlace, loadedEntryPlace, heldEntryPlace, at, nat, figure, trains, scale, pairs, constant, size, first, second}
 use Rattle.tables.specs.WellFormed.{Limits, from-to, within, usedIf, choiceUsed, entryUsed, headLimits, limitsAt, placesRight, before, follows, pairRight, pairsRight, fresh, holdsStudy, wellFormed, Study}
 use Rattle.tables.proofs.Range.{both-true, all-true, all-intro, pass-all}
@@ -211,6 +211,10 @@ module _ {b : List ℤ} (s : Study b) where
 pub record SameShape (b c : List ℤ) : Type 0 where
   pub whole : length c ≡ length b
   pub kept : (p : ℕ) → p < loadedChoicesFrom → p ≢ constantPlace → at c p ≡ at b p
+
+pub figure-at : (b : List ℤ) (p v : ℕ) → at b p ≡ pos v → figure b p ≡ v
+unfolding figure
+figure-at b p v e = ap nat e
 
 pub same-figure : (b c : List ℤ) (p : ℕ) → at c p ≡ at b p → figure c p ≡ figure b p
 unfolding figure

@@ -3,7 +3,7 @@ use mathlib.Core.Path.{_≡_, refl, sym, ap, _∙_}
 use mathlib.Core.Bool.{cond}
 use mathlib.Core.Logic.{⊎-elim}
 use Prim.Native.Nat.{ℕ, zero, suc, _+_, _*_, _<_, _≤_}
-use native.Mathlib.Nat.{add-mul, mul-add, mul-le-mul-left, mul-zero, mul-comm, zero-mul, suc-mul, eq-or-lt-of-le, le-of-suc-le-suc}
+use native.Mathlib.Nat.{add-mul, mul-add, mul-le-mul-left, mul-zero, mul-comm, zero-mul, suc-mul, eq-or-lt-of-le, le-of-suc-le-suc, mul-suc}
 use native.Mathlib.Decide.{ℕ-discrete}
 use native.Mathlib.Numerals.{add-one}
 use native.Mathlib.Omega.{arith}
@@ -136,3 +136,13 @@ pub sum-pick : (n j v : ℕ) → j < n → sum n (λ i. cond (eqb j i) v 0) ≡ 
 sum-pick n j v h =
     let e : cond (eqb j j) v 0 ≡ v = rw (eq-eqb j j refl) in
     omega (arith, sum-one n j (λ i. cond (eqb j i) v 0) (λ i. 0) h (λ i l d. rw (ne-eqb j i (λ s. d (sym s)))), sum-zero n, e)
+
+-- ---- runs of equal parts
+
+-- part k of n parts is inside them
+pub part-inside : (w k n : ℕ) → k < n → w * k + w ≤ w * n
+part-inside w k n h = omega (arith, mul-le-mul-left w h, mul-suc w k)
+
+-- row a of a table is inside it
+pub row-part : (rows columns a : ℕ) → a < rows → columns * a + columns ≤ rows * columns
+row-part rows columns a h = omega (arith, part-inside columns a rows h, mul-comm rows columns)

@@ -1,6 +1,5 @@
 pub mod Sum
 pub mod Range
-pub mod Units
 pub mod Block
 pub mod Ranges
 pub mod WellFormed

@@ -4,8 +4,8 @@ use mathlib.Core.Bool.{true}
 use mathlib.Core.List.{List}
 use Prim.Native.Nat.{ℕ, _+_, _*_, _<_, _≤_}
 use lib.ListN.{length, getD}
+use Rattle.units.specs.Units.{scaleMin, scaleMax}
 use Rattle.tables.specs.Sum.{sum}
-use Rattle.tables.specs.Units.{scaleMin, scaleMax}
 use Rattle.tables.specs.Block.{maxTrains, maxChoices, maxPairs, maxCost}
 use Rattle.tables.specs.WellFormed.{before}
 

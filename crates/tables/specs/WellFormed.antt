@@ -5,11 +5,11 @@ use mathlib.Core.List.{List}
 use Prim.Native.Nat.{ℕ, _-_, _/_, _%_, _<_}
 use lib.Dec.{leb, ltb, eqb}
 use lib.IntN.{ℤ, pos, negsuc}
-use lib.ListN.{length}
+use lib.ListN.{length, replicate}
+use Rattle.units.specs.Units.{scaleMin, scaleMax}
 use Rattle.tables.specs.declared.well_formed.NewBlock.{NewBlock}
 use Rattle.tables.specs.declared.well_formed.NewBlock.the-variants.{Within, Outside}
 use Rattle.tables.specs.Range.{all, pass}
-use Rattle.tables.specs.Units.{scaleMin, scaleMax}
 use Rattle.tables.specs.Block.{blockLength, maxTrains, maxChoices, maxPairs, maxCost, maxParts, trainsPlace, scalePlace, pairsPlace, sizesFrom, firstsFrom, secondsFrom, loadedChoicesFrom, heldChoicesFrom, loadedEntriesFrom, heldEntriesFrom, at, trains, pairs, size, first, second}
 
 -- the least and the greatest number that a place may hold
@@ -88,6 +88,9 @@ unfoldable pub pairsRight : List ℤ → Bool
 pairsRight b = all (pairs b) (pairRight b)
 
 -- 'Fresh is all zeros'
+abbrev pub freshBlock : List ℤ
+freshBlock = replicate blockLength (pos 0)
+
 unfoldable pub isZero : ℤ → Bool
 isZero (pos n) = eqb n 0
 isZero (negsuc n) = false

@@ -3,12 +3,12 @@ ghost use mathlib.Core.Path.{_≡_};
 ghost use Prim.Native.Nat.{_+_, _*_, _<_, _≤_, _^_};
 ghost use lib.IntN.{pos};
 ghost use lib.ListN.{length, set};
-ghost use Rattle.tables.specs.Units.{scaleMin, scaleMax};
+ghost use Rattle.units.specs.Units.{scaleMin, scaleMax};
 ghost use Rattle.tables.specs.Block.{blockLength, entriesOfPair, maxTrains, maxChoices, maxPairs, trainsPlace, scalePlace, pairsPlace, constantPlace, sizePlace, firstPlace, secondPlace, choicePlace, entryPlace, figure, loadedChoicePlace, heldChoicePlace, loadedEntryPlace, heldEntryPlace, trains, scale, pairs, constant, size, first, second, loadedChoice, heldChoice, loadedEntry, heldEntry};
 use crate::places;
-use crate::units::Parts;
-use crate::units::Points;
-use crate::units::Scale;
+use units::Parts;
+use units::Points;
+use units::Scale;
 
 // A well-formed block. Its numbers are lent, as a slice; this type carries the limits, the layout, and whether all numbers are 0.
 pub struct Block {

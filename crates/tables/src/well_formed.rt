@@ -9,7 +9,7 @@ ghost use Rattle.tables.specs.Rows.{runWithin, rowWithin, headRight, sha
 use crate::block;
 use crate::block::Block;
 use crate::places;
-use crate::units::Scale;
+use units::Scale;
 
 // What the constructor of a block answers.
 pub enum NewBlock {

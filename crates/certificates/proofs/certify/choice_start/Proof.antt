@@ -4,9 +4,9 @@ use mathlib.Core.Path.{_≡_, sym}
 use Prim.Native.Nat.{_*_, _-_, _≤_}
 use native.Mathlib.Omega.{arith}
 use Rattle.tables.specs.Block.{maxChoices, size}
+use Rattle.tables.specs.Runs.{choicesBefore}
 use Rattle.tables.proofs.Sum.{sum-none, sum-more}
 use Rattle.tables.proofs.Study.{trains-range, size-range}
-use Rattle.tables.specs.Runs.{choicesBefore}
 use Rattle.certificates.proofs.certify.choice_start.Statement.{statement}
 use Rattle.certificates.proofs.certify.choice_start.Tie as tie
 

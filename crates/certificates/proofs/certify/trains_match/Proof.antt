@@ -6,10 +6,10 @@ use Prim.Native.Nat.{_-_, _≤_}
 use native.Mathlib.Omega.{arith}
 use Rattle.tables.specs.Range.{all}
 use Rattle.tables.specs.Block.{trains, size}
+use Rattle.tables.specs.Runs.{choicesBefore}
 use Rattle.tables.proofs.Sum.{sum-none, sum-more}
 use Rattle.tables.proofs.Range.{all-zero, all-more, all-false}
 use Rattle.tables.proofs.Study.{trains-range}
-use Rattle.tables.specs.Runs.{choicesBefore}
 use Rattle.certificates.specs.Runs.{runSum, trainMatches, trainsMatch}
 use Rattle.certificates.proofs.Runs.{equal, unequal, train-inside, train-run}
 use Rattle.certificates.proofs.certify.trains_match.Statement.{statement}

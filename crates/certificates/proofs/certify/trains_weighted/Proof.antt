@@ -5,9 +5,9 @@ use Prim.Native.Nat.{_-_, _+_, _≤_}
 use native.Mathlib.Omega.{arith}
 use Rattle.tables.specs.Sum.{sum}
 use Rattle.tables.specs.Block.{trains, size}
+use Rattle.tables.specs.Runs.{choicesBefore}
 use Rattle.tables.proofs.Sum.{sum-none, sum-more}
 use Rattle.tables.proofs.Study.{trains-range}
-use Rattle.tables.specs.Runs.{choicesBefore}
 use Rattle.certificates.specs.Runs.{trainWeighted, trainsWeighted}
 use Rattle.certificates.proofs.Runs.{train-inside, train-light, trains-most}
 use Rattle.certificates.proofs.certify.trains_weighted.Statement.{statement}

@@ -5,13 +5,15 @@ use Prim.Native.Nat.{ℕ, _+_, _*_, _-_, _≤_}
 use native.Mathlib.Omega.{arith}
 use lib.ListN.{length, take}
 use lib.Seq.{paste, paste-zero, take-all}
-use Rattle.lines.specs.Digits.{bytes}
-use Rattle.lines.specs.Fields.{field}
+use Rattle.frames.specs.Digits.{bytes}
+use Rattle.frames.specs.Fields.{field}
+use Rattle.frames.specs.Runs.{listOf}
+use Rattle.frames.proofs.Lists.{list-length, paste-next, paste-all}
 use Rattle.lines.specs.Layout.{loadPairs, loadFirst, loadSecond, entryCount, pairAt}
-use Rattle.lines.specs.Numbers.{listOf, entriesOf}
+use Rattle.lines.specs.Numbers.{entriesOf}
 use Rattle.lines.proofs.LoadFields.{FinePair, pair-next, pair-ordered}
-use Rattle.lines.proofs.Accepted.{FineLoad, load-fine, load-sized, load-pair}
-use Rattle.lines.proofs.Runs.{list-length, paste-next, paste-all, entries-none, entries-length, entries-turn, pair-inside}
+use Rattle.lines.proofs.LoadAccepted.{FineLoad, load-fine, load-sized, load-pair}
+use Rattle.lines.proofs.Entries.{entries-none, entries-length, entries-turn, pair-inside}
 use Rattle.lines.proofs.decode.decode_pairs.Statement.{statement}
 use Rattle.lines.proofs.decode.decode_pairs.Tie as tie
 

@@ -5,8 +5,8 @@ use Prim.Native.Nat.{_+_, _*_, _-_, _≤_, _^_}
 use native.Mathlib.Omega.{arith}
 use Rattle.tables.specs.Sum.{sum}
 use Rattle.tables.proofs.Sum.{sum-none, sum-more}
+use Rattle.frames.proofs.Widths.{field-fits}
 use Rattle.lines.specs.Layout.{sizesAt, loadSize}
-use Rattle.lines.proofs.Widths.{field-fits}
 use Rattle.lines.proofs.load.choice_count.Statement.{statement}
 use Rattle.lines.proofs.load.choice_count.Tie as tie
 

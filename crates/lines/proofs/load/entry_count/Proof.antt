@@ -4,7 +4,7 @@ use mathlib.Core.Path.{_≡_, refl}
 use Prim.Native.Nat.{_+_, _*_, _≤_}
 use native.Mathlib.Omega.{arith}
 use Rattle.tables.specs.Block.{entriesOfPair}
-use Rattle.lines.specs.Fields.{field}
+use Rattle.frames.specs.Fields.{field}
 use Rattle.lines.specs.Layout.{entryCount}
 use Rattle.lines.proofs.LoadFields.{entry-count-most}
 use Rattle.lines.proofs.load.entry_count.Statement.{statement}

@@ -1,6 +1,6 @@
 -- n is judged before s is looked for.
 use borrow.Author.Needs.{needs}
-use Rattle.lines.specs.Reading.{headVerdict}
+use Rattle.lines.specs.Verdicts.{headVerdict}
 use Rattle.lines.proofs.Judged.{went-on, declined}
 use Rattle.lines.proofs.load.head_verdict.Statement.{statement}
 use Rattle.lines.proofs.load.head_verdict.Tie as tie

@@ -4,11 +4,11 @@ use mathlib.Core.Path.{_≡_, ap, _∙_}
 use Prim.Native.Nat.{_+_, _*_, _≤_}
 use native.Mathlib.Omega.{arith}
 use Rattle.tables.specs.Block.{maxTrains, maxChoices, maxPairs}
+use Rattle.frames.specs.Fields.{field}
 use Rattle.lines.specs.declared.refusal.Refusal.the-variants.{Range}
 use Rattle.lines.specs.declared.request.Verdict.the-variants.{Fine}
-use Rattle.lines.specs.Fields.{field}
 use Rattle.lines.specs.Layout.{choiceCount, pairCountAt, loadPairs}
-use Rattle.lines.specs.Reading.{Sized, headVerdict, sizesVerdict, choicesVerdict, pairCountVerdict, restVerdict, loadVerdict}
+use Rattle.lines.specs.Verdicts.{Sized, headVerdict, sizesVerdict, choicesVerdict, pairCountVerdict, restVerdict, loadVerdict}
 use Rattle.lines.proofs.Judged.{went-on, declined, field-within}
 use Rattle.lines.proofs.LoadFields.{head-fine, sized, choice-count-most, pair-start}
 use Rattle.lines.proofs.load.load_verdict.Statement.{statement}

@@ -1,7 +1,7 @@
 -- The pair's two trains are compared, the second with the number of trains, and then the pair with the one before it.
 use borrow.Author.Needs.{needs}
 use borrow.Author.Tests.{lt-ltb, le-ltb, eq-eqb, ne-eqb}
-use Rattle.lines.specs.Reading.{pairOrdered}
+use Rattle.lines.specs.Verdicts.{pairOrdered}
 use Rattle.lines.proofs.load.pair_ordered.Statement.{statement}
 use Rattle.lines.proofs.load.pair_ordered.Tie as tie
 

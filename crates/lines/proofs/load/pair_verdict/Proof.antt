@@ -3,7 +3,7 @@ use borrow.Author.Needs.{needs}
 use borrow.Author.Tests.{lt-leb, le-leb}
 use native.Mathlib.Omega.{arith}
 use Rattle.tables.proofs.Range.{refused, passed}
-use Rattle.lines.specs.Reading.{pairVerdict}
+use Rattle.lines.specs.Verdicts.{pairVerdict}
 use Rattle.lines.proofs.LoadFields.{pair-ordered}
 use Rattle.lines.proofs.load.pair_verdict.Statement.{statement}
 use Rattle.lines.proofs.load.pair_verdict.Tie as tie

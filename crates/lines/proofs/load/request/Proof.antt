@@ -3,14 +3,14 @@ use mathlib.Core.Path.{_≡_}
 use Prim.Native.Nat.{_+_, _*_, _≤_}
 use native.Mathlib.Omega.{arith}
 use Rattle.tables.specs.Block.{maxTrains, maxChoices, maxPairs}
+use Rattle.frames.specs.Digits.{bytes}
+use Rattle.frames.specs.Fields.{field}
 use Rattle.lines.specs.declared.refusal.Refusal.the-variants.{Range}
-use Rattle.lines.specs.Digits.{bytes}
-use Rattle.lines.specs.Fields.{field}
 use Rattle.lines.specs.Layout.{choiceCount, pairCountAt}
-use Rattle.lines.specs.Reading.{Sized}
+use Rattle.lines.specs.Verdicts.{Sized}
 use Rattle.lines.proofs.Judged.{field-within}
 use Rattle.lines.proofs.LoadFields.{sized, choice-count-most}
-use Rattle.lines.proofs.Accepted.{load-fine}
+use Rattle.lines.proofs.LoadAccepted.{load-fine}
 use Rattle.lines.proofs.load.request.Statement.{statement}
 use Rattle.lines.proofs.load.request.Tie as tie
 

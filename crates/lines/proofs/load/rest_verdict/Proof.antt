@@ -5,7 +5,7 @@ use Prim.Native.Nat.{_+_, _*_, _-_, _≤_}
 use native.Mathlib.Omega.{arith}
 use Rattle.lines.specs.declared.request.Verdict.the-variants.{Fine}
 use Rattle.lines.specs.Layout.{pairAt}
-use Rattle.lines.specs.Reading.{pairVerdict, pairsVerdict, restVerdict}
+use Rattle.lines.specs.Verdicts.{pairVerdict, pairsVerdict, restVerdict}
 use Rattle.lines.proofs.Judged.{went-on, declined, first-none, first-more, stopped}
 use Rattle.lines.proofs.LoadFields.{FinePair, pair-fine, pair-next, pair-ordered}
 use Rattle.lines.proofs.load.rest_verdict.Statement.{statement}

@@ -2,9 +2,9 @@
 use borrow.Author.Needs.{needs}
 use borrow.Author.Tests.{lt-leb, le-leb}
 use native.Mathlib.Omega.{arith}
-use Rattle.lines.specs.Reading.{fieldVerdict}
-use Rattle.lines.proofs.Bytes.{framed-whole}
-use Rattle.lines.proofs.Widths.{field-below}
+use Rattle.frames.proofs.Bytes.{framed-whole}
+use Rattle.frames.proofs.Widths.{field-below}
+use Rattle.lines.specs.Verdicts.{fieldVerdict}
 use Rattle.lines.proofs.verdict.field_verdict.Statement.{statement}
 use Rattle.lines.proofs.verdict.field_verdict.Tie as tie
 

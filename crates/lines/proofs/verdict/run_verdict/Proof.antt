@@ -5,7 +5,7 @@ use Prim.Native.Nat.{_+_, _*_, _-_, _≤_, _^_}
 use native.Mathlib.Nat.{mul-le-mul}
 use native.Mathlib.Omega.{arith}
 use Rattle.lines.specs.declared.request.Verdict.the-variants.{Fine}
-use Rattle.lines.specs.Reading.{fieldVerdict, runVerdict}
+use Rattle.lines.specs.Verdicts.{fieldVerdict, runVerdict}
 use Rattle.lines.proofs.Judged.{went-on, first-none, first-more, stopped}
 use Rattle.lines.proofs.verdict.run_verdict.Statement.{statement}
 use Rattle.lines.proofs.verdict.run_verdict.Tie as tie

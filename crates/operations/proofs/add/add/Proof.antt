@@ -4,8 +4,8 @@ use mathlib.Core.Path.{_≡_, ap, _∙_}
 use Prim.Native.Nat.{_+_, _*_, _<_, _≤_}
 use native.Mathlib.Nat.{mul-le-mul}
 use native.Mathlib.Omega.{arith}
-use Rattle.tables.specs.declared.units.Parts.{Parts}
-use Rattle.tables.specs.Units.{scaleMax}
+use Rattle.units.specs.declared.Parts.{Parts}
+use Rattle.units.specs.Units.{scaleMax}
 use Rattle.tables.specs.Block.{maxTrains, maxChoices, maxCost, maxParts, scale, loadedChoice, heldChoice}
 use Rattle.tables.proofs.Study.{trains-range, size-range, scale-range, loaded-choice-range, held-choice-range}
 use Rattle.operations.proofs.Added.{cost-above, parts-above, both-within, added-by}

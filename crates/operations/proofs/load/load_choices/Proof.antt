@@ -4,10 +4,10 @@ use mathlib.Core.Path.{_≡_, refl, sym, _∙_}
 use Prim.Native.Nat.{_-_, _≤_}
 use native.Mathlib.Omega.{arith}
 use lib.ListN.{length}
+use Rattle.tables.specs.Numbers.{nth, choiceStart}
+use Rattle.tables.proofs.Sum.{sum-none, sum-more, sum-part}
 use Rattle.operations.specs.Fold.{iter}
 use Rattle.operations.proofs.Fold.{iter-zero, iter-more}
-use Rattle.tables.proofs.Sum.{sum-none, sum-more, sum-part}
-use Rattle.tables.specs.Numbers.{nth, choiceStart}
 use Rattle.operations.proofs.LoadTurns.{trainTurn, run-at}
 use Rattle.operations.proofs.load.load_choices.Statement.{statement}
 use Rattle.operations.proofs.load.load_choices.Tie as tie

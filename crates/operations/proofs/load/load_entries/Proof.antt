@@ -5,12 +5,12 @@ use mathlib.Core.List.{List}
 use Prim.Native.Nat.{ℕ, _+_, _*_, _-_, _<_, _≤_}
 use native.Mathlib.Omega.{arith}
 use lib.ListN.{length}
-use Rattle.operations.specs.Fold.{iter}
-use Rattle.operations.proofs.Fold.{iter-zero, iter-more}
 use native.Mathlib.Nat.{mul-le-mul}
 use Rattle.tables.specs.Block.{maxChoices}
-use Rattle.tables.proofs.Sum.{sum-none, sum-more, sum-part}
 use Rattle.tables.specs.Numbers.{nth, rowsOf, entryStart}
+use Rattle.tables.proofs.Sum.{sum-none, sum-more, sum-part}
+use Rattle.operations.specs.Fold.{iter}
+use Rattle.operations.proofs.Fold.{iter-zero, iter-more}
 use Rattle.operations.proofs.LoadTurns.{entriesTurn, pair-at}
 use Rattle.operations.proofs.load.load_entries.Statement.{statement}
 use Rattle.operations.proofs.load.load_entries.Tie as tie

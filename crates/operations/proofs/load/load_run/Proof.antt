@@ -4,12 +4,12 @@ use mathlib.Core.Path.{_≡_, refl, sym, ap}
 use Prim.Native.Nat.{_+_, _*_, _-_, _≤_}
 use native.Mathlib.Omega.{arith}
 use lib.ListN.{length}
+use native.Mathlib.Nat.{mul-le-mul}
+use Rattle.units.specs.declared.Parts.{Parts}
+use Rattle.tables.specs.Block.{maxCost}
+use Rattle.tables.specs.Numbers.{nth}
 use Rattle.operations.specs.Fold.{iter}
 use Rattle.operations.proofs.Fold.{iter-zero}
-use native.Mathlib.Nat.{mul-le-mul}
-use Rattle.tables.specs.Block.{maxCost}
-use Rattle.tables.specs.declared.units.Parts.{Parts}
-use Rattle.tables.specs.Numbers.{nth}
 use Rattle.operations.proofs.LoadTurns.{runTurn, run-more}
 use Rattle.operations.proofs.load.load_run.Statement.{statement}
 use Rattle.operations.proofs.load.load_run.Tie as tie

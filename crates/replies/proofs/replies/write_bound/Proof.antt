@@ -2,8 +2,8 @@
 use borrow.Author.Needs.{needs}
 use mathlib.Core.Path.{refl, ap, ap₂, _∙_}
 use native.Mathlib.Omega.{arith}
-use Rattle.tables.specs.declared.units.Points.{Points}
-use Rattle.tables.specs.Units.{roundedUp}
+use Rattle.units.specs.declared.Points.{Points}
+use Rattle.units.specs.Units.{roundedUp}
 use Rattle.tables.proofs.Study.{scale-range, constant-range}
 use Rattle.replies.proofs.Writing.{wrote-none, wrote-field, wrote-as}
 use Rattle.replies.proofs.ReplyFields.{bound-fields}

@@ -7,8 +7,8 @@ use lib.ListN.{length}
 use mir.Facts.{toZ-ofZ}
 use mir.Syntax.{w64}
 use mir.Val.{toZ, ofZ}
-use Rattle.rewriting.specs.Moves.{addAt, addRun}
 use Rattle.operations.proofs.Fold.{iter-zero, iter-more}
+use Rattle.rewriting.specs.Moves.{addAt, addRun}
 use Rattle.rewriting.proofs.Runs.{add-room, room-more, run-front}
 use Rattle.rewriting.proofs.moves.add_run.Statement.{statement}
 use Rattle.rewriting.proofs.moves.add_run.Tie as tie

@@ -8,8 +8,8 @@ use mir.Facts.{toZ-ofZ}
 use Rattle.tables.specs.Block.{maxParts, at, trains}
 use Rattle.tables.proofs.Study.{same-trains}
 use Rattle.operations.specs.Fold.{iter}
-use Rattle.rewriting.specs.Moves.{projectUnary}
 use Rattle.operations.proofs.Fold.{iter-zero, iter-turn}
+use Rattle.rewriting.specs.Moves.{projectUnary}
 use Rattle.rewriting.proofs.Runs.{room-more}
 use Rattle.rewriting.proofs.Shape.{Moved, none, moved-as, moved-shape, shapely-kept}
 use Rattle.rewriting.proofs.Rooms.{Small, moved-room, lifts-moved}

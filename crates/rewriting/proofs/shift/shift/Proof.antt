@@ -4,9 +4,9 @@ use mathlib.Core.Path.{ap, sym, _∙_}
 use Prim.Native.Nat.{_+_, _^_}
 use native.Mathlib.Omega.{arith}
 use Rattle.tables.specs.Block.{maxParts, trains}
+use Rattle.tables.specs.Runs.{movesBefore}
 use Rattle.tables.proofs.Study.{same-pairs}
 use Rattle.rewriting.specs.Outcome.{judged, judgedBlock}
-use Rattle.tables.specs.Runs.{movesBefore}
 use Rattle.rewriting.proofs.Runs.{room-more}
 use Rattle.rewriting.proofs.Shape.{Moved, none, moved-as, moved-shape, shapely-kept, study-shapely, study-room}
 use Rattle.rewriting.proofs.Rooms.{Small, moved-room, lifts-moved, same-start, shifted-by}

@@ -8,8 +8,8 @@ use mir.Facts.{toZ-ofZ}
 use Rattle.tables.specs.Block.{at, size, second}
 use Rattle.tables.proofs.Study.{same-pairs}
 use Rattle.operations.specs.Fold.{iter}
-use Rattle.rewriting.specs.Moves.{projectColumn}
 use Rattle.operations.proofs.Fold.{iter-zero, iter-turn}
+use Rattle.rewriting.specs.Moves.{projectColumn}
 use Rattle.rewriting.proofs.Runs.{room-more}
 use Rattle.rewriting.proofs.Shape.{Moved, none, moved-as, moved-shape, shapely-kept, same-columns}
 use Rattle.rewriting.proofs.Rooms.{Small, moved-room, columns-shifted}

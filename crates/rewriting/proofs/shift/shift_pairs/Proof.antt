@@ -5,12 +5,12 @@ use Prim.Native.Nat.{_+_, _*_, _-_, _<_, _≤_, _^_}
 use native.Mathlib.Omega.{arith}
 use lib.ListN.{length}
 use Rattle.tables.specs.Block.{maxPairs, pairs, size, first, second}
+use Rattle.tables.specs.Runs.{movesBefore}
 use Rattle.tables.proofs.Sum.{sum-none, sum-more}
 use Rattle.tables.proofs.Study.{same-pairs}
 use Rattle.operations.specs.Fold.{iter}
-use Rattle.tables.specs.Runs.{movesBefore}
-use Rattle.rewriting.specs.Shift.{pairShifted}
 use Rattle.operations.proofs.Fold.{iter-zero, iter-turn}
+use Rattle.rewriting.specs.Shift.{pairShifted}
 use Rattle.rewriting.proofs.Runs.{room-more}
 use Rattle.rewriting.proofs.Shape.{Moved, none, moved-as, moved-shape, shapely-kept, same-rows, same-columns}
 use Rattle.rewriting.proofs.Rooms.{Small, moved-room, pairs-shifted, start-within}

@@ -8,8 +8,8 @@ use mir.Facts.{toZ-ofZ}
 use Rattle.tables.specs.Block.{at, size, first}
 use Rattle.tables.proofs.Study.{same-pairs}
 use Rattle.operations.specs.Fold.{iter}
-use Rattle.rewriting.specs.Moves.{projectRow}
 use Rattle.operations.proofs.Fold.{iter-zero, iter-turn}
+use Rattle.rewriting.specs.Moves.{projectRow}
 use Rattle.rewriting.proofs.Runs.{room-more}
 use Rattle.rewriting.proofs.Shape.{Moved, none, moved-as, moved-shape, shapely-kept, same-rows}
 use Rattle.rewriting.proofs.Rooms.{Small, moved-room, rows-shifted}

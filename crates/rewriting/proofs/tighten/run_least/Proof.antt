@@ -6,8 +6,8 @@ use native.Mathlib.Nat.{mul-zero, add-zero}
 use native.Mathlib.Omega.{arith}
 use Rattle.tables.specs.Block.{figure}
 use Rattle.operations.specs.Fold.{least as leastOf}
-use Rattle.rewriting.specs.Tighten.{runLeast}
 use Rattle.operations.proofs.Fold.{least-zero, least-more}
+use Rattle.rewriting.specs.Tighten.{runLeast}
 use Rattle.rewriting.proofs.tighten.run_least.Statement.{statement}
 use Rattle.rewriting.proofs.tighten.run_least.Tie as tie
 

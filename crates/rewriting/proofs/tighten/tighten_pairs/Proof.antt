@@ -7,8 +7,8 @@ use lib.ListN.{length}
 use Rattle.tables.specs.Block.{heldEntriesFrom, pairs}
 use Rattle.tables.proofs.Study.{same-pairs}
 use Rattle.operations.specs.Fold.{iter}
-use Rattle.rewriting.specs.Tighten.{pairTightened}
 use Rattle.operations.proofs.Fold.{iter-zero, iter-turn}
+use Rattle.rewriting.specs.Tighten.{pairTightened}
 use Rattle.rewriting.proofs.Runs.{room-more}
 use Rattle.rewriting.proofs.Shape.{Moved, none, moved-as, moved-shape, shapely-kept, filled-kept}
 use Rattle.rewriting.proofs.Falls.{Tight, falling-room, falling-natural, falling-pairs, moved-falling, pairs-tightened}

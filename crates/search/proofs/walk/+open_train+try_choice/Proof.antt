@@ -9,6 +9,8 @@ use borrow.Fn.Kinds.{In}
 use borrow.Fn.PlainCycle.{Measures, is, falls, and}
 use Rattle.tables.specs.Block.{trains, size}
 use Rattle.tables.proofs.Study.{trains-range, size-range}
+use Rattle.tables.proofs.block.size.Reads as size-reads
+use Rattle.tables.proofs.block.trains.Reads as trains-reads
 use Rattle.search.specs.declared.steps.Walk.{Walk}
 use Rattle.search.specs.Walk.{choicesOf, partialTotal, choicesFrom}
 use Rattle.search.proofs.Totals.{decided-next}
@@ -27,8 +29,6 @@ use Rattle.search.proofs.steps.mark_spent.Reads as mark-spent-reads
 use Rattle.search.proofs.steps.runs_out.Reads as runs-out-reads
 use Rattle.search.proofs.steps.whole_plan.Reads as whole-plan-reads
 use Rattle.search.proofs.steps.with_choice.Reads as with-choice-reads
-use Rattle.tables.proofs.block.size.Reads as size-reads
-use Rattle.tables.proofs.block.trains.Reads as trains-reads
 use Rattle.search.proofs.walk.+open_train+try_choice.{statement}
 use Rattle.search.proofs.walk.+open_train+try_choice.Tie.{close}
 

@@ -2,8 +2,8 @@
 use borrow.Author.Needs.{needs}
 use mathlib.Core.Path.{_∙_}
 use native.Mathlib.Omega.{arith}
-use Rattle.lines.proofs.Runs.{list-length}
 use Rattle.rewriting.proofs.Ends.{shift-study}
+use Rattle.frames.proofs.Lists.{list-length}
 use Rattle.service.proofs.Ready.{shift-ready}
 use Rattle.service.proofs.Outcomes.{shift-answers}
 use Rattle.service.proofs.requests.shift_with.Statement.{statement}

@@ -1,0 +1,114 @@
+-- What every call keeps between the block and the ledger, and what follows from it: totals, the bound, ceilings and searches by the ledger's costs.
+use mathlib.Core.Path.{_≡_, refl, sym, ap, ap₂, _∙_}
+use mathlib.Core.List.{List}
+use Prim.Native.Nat.{ℕ, _+_, _*_, _<_, _≤_}
+use native.Mathlib.Omega.{arith}
+use native.Mathlib.Nat.{mul-le-mul}
+use lib.IntN.{ℤ}
+use Rattle.units.proofs.Bound.{rounded-least}
+use Rattle.tables.specs.Sum.{sum}
+use Rattle.tables.specs.Block.{maxTrains, maxPairs, maxCost, maxParts, trains, scale, pairs, constant, size, first, second, loadedChoice, loadedEntry}
+use Rattle.tables.specs.WellFormed.{Study}
+use Rattle.tables.specs.Plans.{Shape, Costs, IsPlan, choiceTotal, pairTotal, total, shapeOf, loadedCosts, heldCosts, loadedTotal, heldTotal}
+use Rattle.tables.proofs.Plans.{constant-at-most-total}
+use Rattle.tables.proofs.Study.{trains-range, scale-range, pairs-range, first-below-trains, second-below-trains, loaded-choice-range, loaded-entry-range}
+use Rattle.tables.proofs.Sum.{sum-cong, sum-most}
+use Rattle.replies.specs.Replies.{boundOf}
+use Rattle.claims.specs.Ledger.{Ledger, costOf}
+use Rattle.claims.specs.Claims.{PlanOf, scaledCost, AfterList}
+
+-- the block holds a study with the ledger's shape and the ledger's costs as H, and every plan's total in T is s times its total in H
+pub record Keeps (g : Ledger) (b : List ℤ) : Type 0 where
+  pub study : Study b
+  pub trains-same : trains b ≡ g .shape .trains
+  pub scale-same : scale b ≡ g .scale
+  pub sizes-same : (i : ℕ) → i < trains b → size b i ≡ g .shape .size i
+  pub pairs-same : pairs b ≡ g .shape .pairs
+  pub firsts-same : (k : ℕ) → k < pairs b → first b k ≡ g .shape .first k
+  pub seconds-same : (k : ℕ) → k < pairs b → second b k ≡ g .shape .second k
+  pub no-constant : g .costs .constant ≡ 0
+  pub choices-same : (i a : ℕ) → i < trains b → a < size b i → loadedChoice b i a ≡ g .costs .choice i a
+  pub entries-same : (k a c : ℕ) → k < pairs b → a < size b (first b k) → c < size b (second b k) → loadedEntry b k a c ≡ g .costs .pair k a c
+  pub scaled : (x : ℕ → ℕ) → IsPlan (shapeOf b) x → heldTotal b x ≡ scale b * loadedTotal b x
+
+module _ {g : Ledger} {b : List ℤ} (k : Keeps g b) where
+  -- the ledger's plans are the block's
+  pub plan-in : (x : ℕ → ℕ) → PlanOf g x → IsPlan (shapeOf b) x
+  unfolding IsPlan shapeOf
+  plan-in x p i h = omega (arith, p i (omega (arith, k .trains-same)), k .sizes-same i h)
+
+  pub plan-out : (x : ℕ → ℕ) → IsPlan (shapeOf b) x → PlanOf g x
+  unfolding IsPlan shapeOf
+  plan-out x p i h = let q : i < trains b = omega (arith, k .trains-same) in omega (arith, p i q, k .sizes-same i q)
+
+  -- a plan's cost by the ledger is its total in H
+  pub cost-is : (x : ℕ → ℕ) → IsPlan (shapeOf b) x → costOf g x ≡ loadedTotal b x
+  unfolding total choiceTotal pairTotal IsPlan shapeOf loadedCosts
+  cost-is x p =
+      omega (
+        arith,
+        k .no-constant,
+        ap (λ (n : ℕ). sum n (λ i. g .costs .choice i (x i))) (k .trains-same),
+        sum-cong (trains b) (λ i. loadedChoice b i (x i)) (λ i. g .costs .choice i (x i)) (λ i h. k .choices-same i (x i) h (p i h)),
+        ap (λ (m : ℕ). sum m (λ j. g .costs .pair j (x (g .shape .first j)) (x (g .shape .second j)))) (k .pairs-same),
+        sum-cong (pairs b) (λ j. loadedEntry b j (x (first b j)) (x (second b j))) (λ j. g .costs .pair j (x (g .shape .first j)) (x (g .shape .second j))) at-pair,
+      )
+    where
+      at-pair : (j : ℕ) → j < pairs b → loadedEntry b j (x (first b j)) (x (second b j)) ≡ g .costs .pair j (x (g .shape .first j)) (x (g .shape .second j))
+      at-pair j h =
+          k .entries-same j _ _ h (p (first b j) (first-below-trains (k .study) j h)) (p (second b j) (second-below-trains (k .study) j h))
+          ∙ ap₂ (λ (u v : ℕ). g .costs .pair j (x u) (x v)) (k .firsts-same j h) (k .seconds-same j h)
+
+  -- every plan's total is s times its cost
+  pub total-is : (x : ℕ → ℕ) → PlanOf g x → heldTotal b x ≡ scaledCost g x
+  total-is x p =
+      let q = plan-in x p in
+      k .scaled x q ∙ ap₂ (λ (u v : ℕ). u * v) (k .scale-same) (sym (cost-is x q))
+
+  -- the bound is at most every plan's cost
+  pub bound-low : (x : ℕ → ℕ) → PlanOf g x → boundOf b ≤ costOf g x
+  unfolding heldCosts
+  bound-low x p =
+      rounded-least (scale b) (scale-range (k .study) .0) (constant b) (costOf g x)
+      (rw (ap (λ (v : ℕ). v * costOf g x) (k .scale-same), ← total-is x p) (constant-at-most-total (shapeOf b) (heldCosts b) x))
+
+  pub after-list : AfterList g b
+  after-list = record {
+    trains-same = k .trains-same;
+    scale-same = k .scale-same;
+    sizes-same = k .sizes-same;
+    pairs-same = k .pairs-same;
+    firsts-same = k .firsts-same;
+    seconds-same = k .seconds-same;
+    totals = total-is;
+    bound = bound-low;
+  }
+
+-- where no cost is above 1,000,000 and there is no constant, no plan's total is above 72,000,000
+pub total-most : (s : Shape) (t : Costs) (x : ℕ → ℕ) → s .trains ≤ maxTrains → s .pairs ≤ maxPairs → t .constant ≡ 0
+    → ((i : ℕ) → i < s .trains → t .choice i (x i) ≤ maxCost) → ((j : ℕ) → j < s .pairs → t .pair j (x (s .first j)) (x (s .second j)) ≤ maxCost)
+    → total s t x ≤ (maxTrains + maxPairs) * maxCost
+unfolding total choiceTotal pairTotal
+total-most s t x n m zero choices entries =
+    omega (
+      arith,
+      sum-most (s .trains) maxCost (λ i. t .choice i (x i)) choices,
+      sum-most (s .pairs) maxCost (λ j. t .pair j (x (s .first j)) (x (s .second j))) entries,
+    )
+
+-- a cost of a plan's pair is within its limit
+pub entry-most : {b : List ℤ} → Study b → (x : ℕ → ℕ) → IsPlan (shapeOf b) x → (j : ℕ) → j < pairs b → loadedEntry b j (x (first b j)) (x (second b j)) ≤ maxCost
+unfolding IsPlan shapeOf
+entry-most {b} s x p j h = loaded-entry-range s j h _ _ (p (first b j) (first-below-trains s j h)) (p (second b j) (second-below-trains s j h)) .high
+
+pub loaded-total-most : {b : List ℤ} → Study b → (x : ℕ → ℕ) → IsPlan (shapeOf b) x → loadedTotal b x ≤ (maxTrains + maxPairs) * maxCost
+unfolding IsPlan shapeOf loadedCosts
+loaded-total-most {b} s x p =
+    total-most (shapeOf b) (loadedCosts b) x (trains-range s .1) (pairs-range s) refl (λ i h. loaded-choice-range s i (x i) h (p i h) .high) (entry-most s x p)
+
+-- so that its total in T is at most L
+pub scaled-most : {b : List ℤ} → Study b → (v : ℕ) → v ≤ (maxTrains + maxPairs) * maxCost → scale b * v ≤ maxParts
+scaled-most s v h = mul-le-mul (scale-range s .1) h
+
+pub held-total-most : {g : Ledger} {b : List ℤ} → Keeps g b → (x : ℕ → ℕ) → IsPlan (shapeOf b) x → heldTotal b x ≤ maxParts
+held-total-most {g} {b} k x p = rw (k .scaled x p) (scaled-most (k .study) (loadedTotal b x) (loaded-total-most (k .study) x p))

@@ -1,0 +1,10 @@
+-- The laws of the crate: one file for each idea.
+pub mod Cases
+pub mod ReadBack
+pub mod Declined
+pub mod Lines
+pub mod Keeps
+pub mod Kept
+pub mod Found
+pub mod Steps
+pub mod Demand

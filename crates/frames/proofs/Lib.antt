@@ -1,0 +1,5 @@
+-- The laws of the crate, which callers cite: one file for each idea.
+pub mod Bytes
+pub mod Widths
+pub mod RoundTrip
+pub mod Lists

@@ -1,0 +1,53 @@
+-- Once the line was judged fine, its three fields are there to be read.
+use borrow.Author.Needs.{needs}
+use mathlib.Core.Path.{_≡_, sym, _∙_}
+use native.Mathlib.Omega.{arith}
+use Rattle.frames.specs.Digits.{bytes}
+use Rattle.reader.proofs.Accepted.{add-fine}
+use Rattle.reader.proofs.read_add.Statement.{statement}
+use Rattle.reader.proofs.read_add.Tie as tie
+
+add-verdict-requires : tie.Need-add-verdict-requires
+add-verdict-requires c κs = search needs
+
+enum-known-r : tie.Need-enum-known-r
+enum-known-r c = search needs
+
+enum-told : tie.Need-enum-told
+enum-told c = search needs
+
+ends : (c : tie.After-enum-told) → bytes (c .before .before .before .before .args .line .now) ≡ 6
+ends c =
+    let v = c .before .before in
+    let a = v .before .before .args in
+    add-fine (a .line .now) (a .block .now) (sym (v .add-verdict .ensures) ∙ c .enum-told .given .1) .ends
+
+field-requires : tie.Need-field-requires
+field-requires c κs = omega (arith, ends c)
+
+field-requires-2 : tie.Need-field-requires-2
+field-requires-2 c κs = omega (arith, ends (c .before))
+
+field-requires-3 : tie.Need-field-requires-3
+field-requires-3 c κs = omega (arith, ends (c .before .before))
+
+returns : tie.Need-returns
+returns c = let v = c .before .before .before in rw (← v .add-verdict .ensures, c .before .r .given .1)
+
+returns-2 : tie.Need-returns-2
+returns-2 c =
+    let t = c .before .before .before in
+    rw (← t .before .before .add-verdict .ensures, t .enum-told .given .1, c .before .before .field .ensures, c .before .field2 .ensures, c .field3 .ensures)
+
+pub read-add-spec : {M : Type 1} → statement M
+read-add-spec =
+    tie.close
+    (tie.spec
+    add-verdict-requires
+    enum-known-r
+    enum-told
+    field-requires
+    field-requires-2
+    field-requires-3
+    returns
+    returns-2)

@@ -1,0 +1,290 @@
+// Document 01, 'Lines' and 'What is declined': from a line and a well-formed block to what the line asks, or the first reason to decline it.
+ghost use mathlib.Core.Path.{_≡_};
+ghost use mathlib.Core.Bool.{true};
+ghost use Prim.Native.Nat.{_-_, _<_, _≤_, _^_};
+ghost use Rattle.tables.specs.Block.{maxTrains};
+ghost use Rattle.tables.specs.WellFormed.{Study, wellFormed};
+ghost use Rattle.frames.specs.Frames.{Framed};
+ghost use Rattle.lines.specs.declared.refusal.Refusal.the-variants.{Absent};
+ghost use Rattle.lines.specs.declared.request.Rule.the-variants.{Between};
+ghost use Rattle.lines.specs.Layout.{kindOf};
+ghost use Rattle.lines.specs.Verdicts.{fieldVerdict};
+ghost use Rattle.reader.specs.Reading.{loadLine, addVerdict, addLine, shiftVerdict, shiftLine, tightenLine, certifyVerdict, certifyLine, searchVerdict, searchLine, studyLine, kindLine, lineOf};
+use frames::fields;
+use frames::frame::Frame;
+use frames::frame::NewFrame;
+use lines::load;
+use lines::refusal::Refusal;
+use lines::request::Add;
+use lines::request::Certify;
+use lines::request::Line;
+use lines::request::Load;
+use lines::request::Request;
+use lines::request::Rule;
+use lines::request::Run;
+use lines::request::Search;
+use lines::request::Shift;
+use lines::request::Verdict;
+use lines::verdict;
+use tables::block;
+use tables::block::Block;
+use tables::well_formed;
+
+mod counts;
+
+// What the line asks, or why it is declined.
+pub fn read(line: &[u8], block: &[i64]) -> Line
+    requires { ⌜ wellFormed (now block) ≡ true ⌝ }
+    ensures { λ r. ⌜ r ≡ lineOf (now (line .entry)) (now (block .entry)) ⌝ }
+{
+    match Frame::new(line) {
+        NewFrame::Long => Line::Refused(Refusal::TooLong),
+        NewFrame::Broken => Line::Refused(Refusal::Characters),
+        NewFrame::Within(frame) => read_kind(line, frame.bytes, block),
+    }
+}
+
+// The first byte is the kind.
+fn read_kind(line: &[u8], bytes: usize, block: &[i64]) -> Line
+    requires { ⌜ Framed (now line) bytes × (wellFormed (now block) ≡ true) ⌝ }
+    ensures { λ r. ⌜ r ≡ kindLine (now (line .entry)) (now (block .entry)) ⌝ }
+{
+    let kind = fields::field(line, 0, 1);
+    match kind {
+        1 => read_load(line, bytes),
+        2..=6 => read_study(line, bytes, kind, block),
+        _ => Line::Refused(Refusal::NoKind),
+    }
+}
+
+// The kinds that need a loaded study.
+fn read_study(line: &[u8], bytes: usize, kind: u64, block: &[i64]) -> Line
+    requires { ⌜ Framed (now line) bytes × (wellFormed (now block) ≡ true) × (kind ≡ kindOf (now line)) ⌝ }
+    ensures { λ r. ⌜ r ≡ studyLine (now (line .entry)) (now (block .entry)) ⌝ }
+{
+    if well_formed::fresh(block) {
+        return Line::Refused(Refusal::FreshBlock);
+    }
+    match kind {
+        2 => read_add(line, bytes, block),
+        3 => read_shift(line, bytes, block),
+        4 => read_tighten(line, bytes),
+        5 => read_certify(line, bytes, block),
+        _ => read_search(line, bytes),
+    }
+}
+
+// A load.
+fn read_load(line: &[u8], bytes: usize) -> Line
+    requires { ⌜ Framed (now line) bytes ⌝ }
+    ensures { λ r. ⌜ r ≡ loadLine (now (line .entry)) ⌝ }
+{
+    match load::load_verdict(line, bytes) {
+        Verdict::Declined(r) => Line::Refused(r),
+        Verdict::Fine => Line::Asked(load::request(line, bytes)),
+    }
+}
+
+// A train or a choice, of which there are `count`.
+fn index_verdict(line: &[u8], bytes: usize, at: usize, count: usize) -> Verdict
+    requires { ⌜ Framed (now line) bytes × (at < 2 ^ 40) × (1 ≤ count) ⌝ }
+    ensures { λ r. ⌜ r ≡ fieldVerdict (now (line .entry)) at 1 (Between 0 (count - 1)) Absent ⌝ }
+{
+    verdict::field_verdict(
+        line,
+        bytes,
+        at,
+        1,
+        Rule::Between(0, (count - 1) as u64),
+        Refusal::Absent,
+    )
+}
+
+// Train, choice and points.
+fn add_verdict(line: &[u8], bytes: usize, block: &[i64]) -> Verdict
+    requires { ⌜ Framed (now line) bytes × Study (now block) ⌝ }
+    ensures { λ r. ⌜ r ≡ addVerdict (now (line .entry)) (now (block .entry)) ⌝ }
+{
+    let train = index_verdict(line, bytes, 1, block::trains(block));
+    if !train.is_fine() {
+        return train;
+    }
+    let size = block::size(block, fields::field(line, 1, 1) as usize);
+    let choice = index_verdict(line, bytes, 2, size);
+    if !choice.is_fine() {
+        return choice;
+    }
+    let points = verdict::field_verdict(
+        line,
+        bytes,
+        3,
+        Load::COST_WIDTH,
+        Rule::Between(0, Block::COST),
+        Refusal::Cost,
+    );
+    if !points.is_fine() {
+        return points;
+    }
+    verdict::end_verdict(bytes, 6)
+}
+
+// An added cost.
+fn read_add(line: &[u8], bytes: usize, block: &[i64]) -> Line
+    requires { ⌜ Framed (now line) bytes × Study (now block) ⌝ }
+    ensures { λ r. ⌜ r ≡ addLine (now (line .entry)) (now (block .entry)) ⌝ }
+{
+    match add_verdict(line, bytes, block) {
+        Verdict::Declined(r) => Line::Refused(r),
+        Verdict::Fine => Line::Asked(Request::Add(Add {
+            train: fields::field(line, 1, 1) as usize,
+            choice: fields::field(line, 2, 1) as usize,
+            points: fields::field(line, 3, Load::COST_WIDTH),
+        })),
+    }
+}
+
+// Lifts and moves.
+fn shift_verdict(line: &[u8], bytes: usize, n: usize, moves: usize) -> Verdict
+    requires { ⌜ Framed (now line) bytes × (n ≤ maxTrains) × (moves < 2 ^ 32) ⌝ }
+    ensures { λ r. ⌜ r ≡ shiftVerdict (now (line .entry)) n moves ⌝ }
+{
+    let lifts = verdict::run_verdict(
+        line,
+        bytes,
+        Shift::LIFTS_AT,
+        Shift::MOVE_WIDTH,
+        n,
+        Rule::Between(0, Shift::MOVE),
+        Refusal::Move,
+    );
+    if !lifts.is_fine() {
+        return lifts;
+    }
+    let at = Shift::LIFTS_AT + Shift::MOVE_WIDTH * n;
+    let moved = verdict::run_verdict(
+        line,
+        bytes,
+        at,
+        Shift::MOVE_WIDTH,
+        moves,
+        Rule::Around(Shift::MOVE),
+        Refusal::Move,
+    );
+    if !moved.is_fine() {
+        return moved;
+    }
+    verdict::end_verdict(bytes, at + Shift::MOVE_WIDTH * moves)
+}
+
+// A shift.
+fn read_shift(line: &[u8], bytes: usize, block: &[i64]) -> Line
+    requires { ⌜ Framed (now line) bytes × Study (now block) ⌝ }
+    ensures { λ r. ⌜ r ≡ shiftLine (now (line .entry)) (now (block .entry)) ⌝ }
+{
+    let n = block::trains(block);
+    let count = counts::move_count(block);
+    let lifts = Run {
+        at: Shift::LIFTS_AT,
+        count: n,
+    };
+    let moves = Run {
+        at: Shift::LIFTS_AT + Shift::MOVE_WIDTH * n,
+        count,
+    };
+    match shift_verdict(line, bytes, n, count) {
+        Verdict::Declined(r) => Line::Refused(r),
+        Verdict::Fine => Line::Asked(Request::Shift(Shift { lifts, moves })),
+    }
+}
+
+// A tightening.
+fn read_tighten(line: &[u8], bytes: usize) -> Line
+    requires { ⌜ Framed (now line) bytes ⌝ }
+    ensures { λ r. ⌜ r ≡ tightenLine (now (line .entry)) ⌝ }
+{
+    match verdict::end_verdict(bytes, 1) {
+        Verdict::Declined(r) => Line::Refused(r),
+        Verdict::Fine => Line::Asked(Request::Tighten),
+    }
+}
+
+// W and the weights.
+fn certify_verdict(line: &[u8], bytes: usize, count: usize) -> Verdict
+    requires { ⌜ Framed (now line) bytes × (count < 2 ^ 32) ⌝ }
+    ensures { λ r. ⌜ r ≡ certifyVerdict (now (line .entry)) count ⌝ }
+{
+    let whole = verdict::field_verdict(
+        line,
+        bytes,
+        1,
+        Certify::WEIGHT_WIDTH,
+        Rule::Between(1, Certify::WHOLE),
+        Refusal::Whole,
+    );
+    if !whole.is_fine() {
+        return whole;
+    }
+    let weights = verdict::run_verdict(
+        line,
+        bytes,
+        Certify::WEIGHTS_AT,
+        Certify::WEIGHT_WIDTH,
+        count,
+        Rule::Any,
+        Refusal::Fields,
+    );
+    if !weights.is_fine() {
+        return weights;
+    }
+    verdict::end_verdict(bytes, Certify::WEIGHTS_AT + Certify::WEIGHT_WIDTH * count)
+}
+
+// A certificate.
+fn read_certify(line: &[u8], bytes: usize, block: &[i64]) -> Line
+    requires { ⌜ Framed (now line) bytes × Study (now block) ⌝ }
+    ensures { λ r. ⌜ r ≡ certifyLine (now (line .entry)) (now (block .entry)) ⌝ }
+{
+    let count = counts::choice_count(block) + counts::entry_count(block);
+    match certify_verdict(line, bytes, count) {
+        Verdict::Declined(r) => Line::Refused(r),
+        Verdict::Fine => Line::Asked(Request::Certify(Certify {
+            whole: fields::field(line, 1, Certify::WEIGHT_WIDTH),
+            weights: Run {
+                at: Certify::WEIGHTS_AT,
+                count,
+            },
+        })),
+    }
+}
+
+// The budget.
+fn search_verdict(line: &[u8], bytes: usize) -> Verdict
+    requires { ⌜ Framed (now line) bytes ⌝ }
+    ensures { λ r. ⌜ r ≡ searchVerdict (now (line .entry)) ⌝ }
+{
+    let budget = verdict::field_verdict(
+        line,
+        bytes,
+        1,
+        Search::BUDGET_WIDTH,
+        Rule::Between(1, Search::BUDGET),
+        Refusal::Budget,
+    );
+    if !budget.is_fine() {
+        return budget;
+    }
+    verdict::end_verdict(bytes, 1 + Search::BUDGET_WIDTH)
+}
+
+// A search.
+fn read_search(line: &[u8], bytes: usize) -> Line
+    requires { ⌜ Framed (now line) bytes ⌝ }
+    ensures { λ r. ⌜ r ≡ searchLine (now (line .entry)) ⌝ }
+{
+    match search_verdict(line, bytes) {
+        Verdict::Declined(r) => Line::Refused(r),
+        Verdict::Fine => Line::Asked(Request::Search(Search {
+            budget: fields::field(line, 1, Search::BUDGET_WIDTH),
+        })),
+    }
+}

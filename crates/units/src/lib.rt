@@ -1,0 +1,71 @@
+// Document 01, 'Problem and units': loaded costs are in points, held costs in parts, and only a scale converts one to the other.
+ghost use mathlib.Core.Path.{_≡_};
+ghost use Prim.Native.Nat.{_≤_, _<_, _^_};
+ghost use Rattle.units.specs.Units.{Sound, newScale, scaleMin, scaleMax, inParts, published};
+
+// A figure in points.
+pub struct Points(pub u64);
+
+// A figure in parts.
+pub struct Parts(pub u64);
+
+// How many parts make one point.
+pub struct Scale(u64);
+
+// What the constructor of a scale answers.
+pub enum NewScale {
+    Within(Scale),
+    Outside,
+}
+
+impl Scale {
+    pub const MIN: u64 = 1;
+
+    pub const MAX: u64 = 1000;
+
+    // The scale of s parts a point, or that s is outside the limits.
+    pub fn new(s: u64) -> NewScale
+        ensures { λ r. ⌜ r ≡ newScale s ⌝ }
+    {
+        if s < Self::MIN {
+            return NewScale::Outside;
+        }
+        if Self::MAX < s {
+            return NewScale::Outside;
+        }
+        NewScale::Within(Scale(s))
+    }
+
+    // The scale of a number that is known to be within the limits.
+    pub fn known(s: u64) -> Scale
+        requires { ⌜ (scaleMin ≤ s) × (s ≤ scaleMax) ⌝ }
+        ensures { λ r. ⌜ r .0 ≡ s ⌝ }
+    {
+        Scale(s)
+    }
+
+    // How many parts make one point.
+    pub fn number(self) -> u64
+        ensures { λ r. ⌜ r ≡ self .0 ⌝ }
+    {
+        self.0
+    }
+
+    // Points in parts.
+    pub fn parts(self, p: Points) -> Parts
+        requires { ⌜ (Sound self) × (p .0 < 2 ^ 48) ⌝ }
+        ensures { λ r. ⌜ r ≡ inParts self p ⌝ }
+    {
+        let s = self.0;
+        let points = p.0;
+        Parts(s * points)
+    }
+
+    // The least whole number of points that is not below so many parts.
+    pub fn bound(self, c: Parts) -> Points
+        requires { ⌜ (Sound self) × (c .0 < 2 ^ 63) ⌝ }
+        ensures { λ r. ⌜ r ≡ published self c ⌝ }
+    {
+        Points((c.0 + (self.0 - 1)) / self.0)
+    }
+}
