@@ -23,7 +23,7 @@ use Rattle.rewriting.proofs.Reach.{moved-unmet, Loaded, loaded-unmet, r
 
 -- any number may go
 abbrev pub Any : Asked
-Any from step count to c α = Unit {0}
+Any r c α = Unit {0}
 
 -- ---- a judged block
 
@@ -39,7 +39,7 @@ judged-cases P b c len x y = go (holdsStudy c) refl
 
 module _ {b : List ℤ} (s : Study b) (lifts moves : List ℤ) where
   shift-chain : Moved Any b allMoves (shifted lifts moves b)
-  shift-chain = shift-moved (study-shapely s) lifts moves (λ f d n t x i. tt) (λ f d n t x i. tt)
+  shift-chain = shift-moved (study-shapely s) lifts moves (λ r x i. tt) (λ r x i. tt)
 
   pub shift-same-shape : SameShape b (shifted lifts moves b)
   shift-same-shape = moved-shape (study-shapely s) shift-chain
@@ -77,7 +77,7 @@ module _ {b : List ℤ} (s : Study b) where
   unfolding tightened
   tighten-chain =
       moved-more (omega (arith, study-shapely s .pairs, between .trains))
-      (moved-then (study-shapely s) (moved-map (λ f d n t c α r. tt) pairs-chain) (moved-map (λ f d n t c α r. tt) (trains-chain (trains (pairsTightened b)) (omega arith))))
+      (moved-then (study-shapely s) (moved-map (λ run c α r. tt) pairs-chain) (moved-map (λ run c α r. tt) (trains-chain (trains (pairsTightened b)) (omega arith))))
 
   -- the most that a number is after the pairs
   abbrev pairs-most : ℕ

@@ -18,10 +18,12 @@ use Rattle.tables.proofs.Sum.{update-same, update-other}
 use Rattle.tables.proofs.Limits.{within-pos, choice-used, entry-used, limits-head, limits-held-choices, limits-held-entries}
 use Rattle.tables.proofs.Study.{SameShape, study-from, trains-range, size-range, first-below-second, first-below-trains, second-below-trains}
 use Rattle.tables.proofs.Plans.{same-shape-total, constant-at-most-total, choice-at-most-total, pair-at-most-total}
+use Rattle.rewriting.specs.declared.sides.Run.{Run}
+use Rattle.rewriting.specs.declared.sides.Side.the-variants.{Rows, Columns}
 use Rattle.rewriting.specs.Moves.{Shapely, moveRun}
 use Rattle.rewriting.specs.Tighten.{Filled}
 use Rattle.rewriting.proofs.Runs.{move-other}
-use Rattle.rewriting.proofs.Shape.{study-shapely, Project, row, column, unary, Asked, Moved, none, move}
+use Rattle.rewriting.proofs.Shape.{study-shapely, Project, line, unary, Asked, Moved, none, move}
 
 -- ---- places that no move meets
 
@@ -33,15 +35,12 @@ pub record Unmet (b : List ℤ) (p : ℕ) : Type 0 where
 module _ {R : Asked} {b : List ℤ} (o : Filled b) {p : ℕ} (u : Unmet b p) where
   pub moved-unmet : {n : ℕ} {c : List ℤ} → Moved R b n c → at c p ≡ at b p
   moved-unmet none = refl
-  moved-unmet (move {from = from} {step} {count} {to} {c} α l j r w) = by j ∙ moved-unmet w
+  moved-unmet (move {c = c} α l j r w) = by j ∙ moved-unmet w
     where
-      by : {from step count to : ℕ} → Project b from step count to → at (moveRun from step count to α c) p ≡ at c p
-      by (row k a h q) =
-          move-other _ _ _ _ α c p (u .choices (first b k) a (o .firsts k h) q) (λ i l e. u .entries k a i h q l (omega arith))
-      by (column k a h q) =
-          move-other _ _ _ _ α c p (u .choices (second b k) a (o .seconds k h) q) (λ i l e. u .entries k i a h l q (omega arith))
-      by (unary i h) =
-          move-other _ _ _ _ α c p (u .constant) (λ a l e. u .choices i a h l (omega arith))
+      by : {r : Run} → Project b r → at (moveRun r α c) p ≡ at c p
+      by (line Rows k a h q) = move-other _ α c p (u .choices (first b k) a (o .firsts k h) q) (λ i l e. u .entries k a i h q l (omega arith))
+      by (line Columns k a h q) = move-other _ α c p (u .choices (second b k) a (o .seconds k h) q) (λ i l e. u .entries k i a h l q (omega arith))
+      by (unary i h) = move-other _ α c p (u .constant) (λ a l e. u .choices i a h l (omega arith))
 
 -- the loaded costs are such places
 pub record Between (from to p : ℕ) : Type 0 where

@@ -12,12 +12,15 @@ use lib.IntN.{ℤ, pos}
 use lib.ListN.{length, List·getD-eq-default}
 use lib.Signed.{mag}
 use Rattle.units.specs.Units.{scaleMin, scaleMax}
-use Rattle.tables.specs.Block.{blockLength, maxTrains, maxChoices, maxPairs, maxCost, maxParts, trainsPlace, scalePlace, pairsPlace, constantPlace, sizesFrom, firstsFrom, secondsFrom, loadedChoicesFrom, heldChoicesFrom, loadedEntriesFrom, heldEntriesFrom, heldChoicePlace, heldEntryPlace, at, figure, trains, pairs, size, first, second}
+use Rattle.tables.specs.Block.{blockLength, maxTrains, maxChoices, maxPairs, maxCost, maxParts, trainsPlace, scalePlace, pairsPlace, constantPlace, sizesFrom, firstsFrom, secondsFrom, loadedChoicesFrom, heldChoicesFrom, loadedEntriesFrom, heldEntriesFrom, at, figure, trains, pairs, size, first, second}
 use Rattle.tables.specs.WellFormed.{Limits, from-to, usedIf, choiceUsed, entryUsed, headLimits, shapeLimits, costLimits, limitsAt, Study}
 use Rattle.tables.proofs.Study.{study-place, trains-range, pairs-range, size-range, size-high, first-high, second-high, first-below-trains, second-below-trains, SameShape, same-trains, same-pairs, same-size, same-first, same-second}
 use Rattle.operations.specs.Fold.{iter}
 use Rattle.operations.proofs.Fold.{iter-ind}
-use Rattle.rewriting.specs.Moves.{Room, Shapely, RunIn, moveRun, projectRow, projectColumn, projectUnary}
+use Rattle.rewriting.specs.declared.sides.Run.{Run}
+use Rattle.rewriting.specs.declared.sides.Side.{Side}
+use Rattle.rewriting.specs.declared.sides.Side.the-variants.{Rows, Columns}
+use Rattle.rewriting.specs.Moves.{Room, Shapely, RunIn, runPlace, moveRun, lineTrain, lineRun, choicesRun, project, projectUnary}
 use Rattle.rewriting.specs.Tighten.{Natural, Filled}
 use Rattle.rewriting.proofs.Runs.{Missed, move-length, move-other}
 
@@ -104,13 +107,15 @@ module _ {b c : List ℤ} (e : SameShape b c) (s : Shapely b) where
         seconds = λ k h. rw (same-second e k h) (s .seconds k h);
       }
 
-  -- of a pair: its trains and how many rows and columns it has
+  -- of a pair: how many lines each side has, and where they are
   module _ (k : ℕ) (h : k < maxPairs) where
-    pub same-rows : size c (first c k) ≡ size b (first b k)
-    same-rows = ap (size c) (same-first e k h) ∙ same-size e (first b k) (s .firsts k h)
+    pub same-lines : (side : Side) → size c (lineTrain side c k) ≡ size b (lineTrain side b k)
+    same-lines Rows = ap (size c) (same-first e k h) ∙ same-size e (first b k) (s .firsts k h)
+    same-lines Columns = ap (size c) (same-second e k h) ∙ same-size e (second b k) (s .seconds k h)
 
-    pub same-columns : size c (second c k) ≡ size b (second b k)
-    same-columns = ap (size c) (same-second e k h) ∙ same-size e (second b k) (s .seconds k h)
+    pub same-line : (side : Side) (x : ℕ) → lineRun side c k x ≡ lineRun side b k x
+    same-line Rows x = rw (same-lines Columns, same-first e k h)
+    same-line Columns x = rw (same-lines Rows, same-second e k h)
 
   pub filled-kept : Filled b → Filled c
   filled-kept f =
@@ -122,50 +127,44 @@ module _ {b c : List ℤ} (e : SameShape b c) (s : Shapely b) where
 
 -- ---- the moves that Algorithm 1 makes on a block of this shape
 
-pub data Project (b : List ℤ) : ℕ → ℕ → ℕ → ℕ → Type 0 where
-  row : (k a : ℕ) → k < pairs b → a < size b (first b k)
-      → Project b (heldEntryPlace k a 0) 1 (size b (second b k)) (heldChoicePlace (first b k) a)
-  column : (k c : ℕ) → k < pairs b → c < size b (second b k)
-      → Project b (heldEntryPlace k 0 c) maxChoices (size b (first b k)) (heldChoicePlace (second b k) c)
-  unary : (i : ℕ) → i < trains b → Project b (heldChoicePlace i 0) 1 (size b i) constantPlace
-
--- the same run, by numbers that are known to be its own
-pub project-as : {b : List ℤ} {from step count to f n t : ℕ} → f ≡ from → n ≡ count → t ≡ to → Project b from step count to → Project b f step n t
-project-as p q r j = rw (p, q, r) j
-
-pub run-as : (T : ℕ → ℕ → ℕ → List ℤ) {from count to f n t : ℕ} → f ≡ from → n ≡ count → t ≡ to → T f n t ≡ T from count to
-run-as T p q r = rw (p, q, r)
+pub data Project (b : List ℤ) : Run → Type 0 where
+  line : (side : Side) (k x : ℕ) → k < pairs b → x < size b (lineTrain side b k) → Project b (lineRun side b k x)
+  unary : (i : ℕ) → i < trains b → Project b (choicesRun b i)
 
 -- a block of the same shape has the same moves
-pub project-kept : {b c : List ℤ} {from step count to : ℕ} → SameShape b c → Shapely b → Project c from step count to → Project b from step count to
-project-kept {b} {c} e s (row k a h q) =
+pub project-kept : {b c : List ℤ} {r : Run} → SameShape b c → Shapely b → Project c r → Project b r
+project-kept {b} {c} e s (line side k x h q) =
     let l : k < pairs b = omega (arith, same-pairs e) in
     let g : k < maxPairs = omega (arith, s .pairs) in
-    rw (same-columns e s k g, same-first e k g) (row k a l (rw (same-rows e s k g) at q))
-project-kept {b} {c} e s (column k a h q) =
-    let l : k < pairs b = omega (arith, same-pairs e) in
-    let g : k < maxPairs = omega (arith, s .pairs) in
-    rw (same-rows e s k g, same-second e k g) (column k a l (rw (same-columns e s k g) at q))
+    rw (same-line e s k g side x) (line side k x l (rw (same-lines e s k g side) at q))
 project-kept {b} {c} e s (unary i h) =
     let l : i < trains b = omega (arith, same-trains e) in
     rw (same-size e i (omega (arith, s .trains))) (unary i l)
 
 -- all its places are costs or the constant, and it goes to none of those that it comes from
-pub record Fair (from step count to : ℕ) : Type 0 where
-  pub apart : 0 < step
-  pub inside : (i : ℕ) → i < count → from + step * i < blockLength
-  pub there : to < blockLength
-  pub costs : heldChoicesFrom ≤ from
-  pub goal : (to ≡ constantPlace) ⊎ (heldChoicesFrom ≤ to)
-  pub missed : Missed from step count to
+pub record Fair (r : Run) : Type 0 where
+  pub apart : 0 < r .step
+  pub inside : (i : ℕ) → i < r .count → runPlace r i < blockLength
+  pub there : r .to < blockLength
+  pub costs : heldChoicesFrom ≤ r .from
+  pub goal : (r .to ≡ constantPlace) ⊎ (heldChoicesFrom ≤ r .to)
+  pub missed : Missed r (r .to)
 
 module _ {b : List ℤ} (s : Shapely b) where
-  pub project-fair : {from step count to : ℕ} → Project b from step count to → Fair from step count to
-  project-fair (row k a h q) =
-      let f = s .firsts k (omega (arith, s .pairs)) in
-      let g = s .seconds k (omega (arith, s .pairs)) in
-      let d = s .sizes (first b k) f in
-      let e = s .sizes (second b k) g in
+  -- the train of a line is one of the block's
+  pub line-train : (side : Side) (k : ℕ) → k < pairs b → lineTrain side b k < maxTrains
+  line-train Rows k h = s .firsts k (omega (arith, s .pairs))
+  line-train Columns k h = s .seconds k (omega (arith, s .pairs))
+
+  -- and a side has no more lines than a train has choices
+  pub lines-most : (side : Side) (k : ℕ) → k < pairs b → size b (lineTrain side b k) ≤ maxChoices
+  lines-most side k h = s .sizes (lineTrain side b k) (line-train side k h)
+
+  pub project-fair : {r : Run} → Project b r → Fair r
+  project-fair (line Rows k x h q) =
+      let f = line-train Rows k h in
+      let d = lines-most Rows k h in
+      let e = lines-most Columns k h in
       record {
         apart = omega arith;
         inside = λ i l. omega (arith, s .pairs);
@@ -174,11 +173,10 @@ module _ {b : List ℤ} (s : Shapely b) where
         goal = inr (omega arith);
         missed = λ i l z. omega arith;
       }
-  project-fair (column k c h q) =
-      let f = s .firsts k (omega (arith, s .pairs)) in
-      let g = s .seconds k (omega (arith, s .pairs)) in
-      let d = s .sizes (first b k) f in
-      let e = s .sizes (second b k) g in
+  project-fair (line Columns k x h q) =
+      let f = line-train Columns k h in
+      let d = lines-most Rows k h in
+      let e = lines-most Columns k h in
       record {
         apart = omega arith;
         inside = λ i l. omega (arith, s .pairs);
@@ -199,15 +197,23 @@ module _ {b : List ℤ} (s : Shapely b) where
       }
 
 -- its run, in a whole block
-pub fair-run : {from step count to : ℕ} (c : List ℤ) → length c ≡ blockLength → Fair from step count to → RunIn c from step count
-fair-run c e f = record { inside = λ i l. omega (arith, f .inside i l) }
+pub fair-run : {r : Run} (c : List ℤ) → length c ≡ blockLength → Fair r → RunIn c r
+fair-run c e f = record { apart = f .apart; inside = λ i l. omega (arith, f .inside i l); there = omega (arith, f .there) }
 
-pub move-shape : (from step count to : ℕ) (α : ℤ) (b : List ℤ) → Fair from step count to → SameShape b (moveRun from step count to α b)
-move-shape from step count to α b f =
+pub project-run : {b : List ℤ} {r : Run} → Shapely b → Project b r → RunIn b r
+project-run {b} s p = fair-run b (s .whole) (project-fair s p)
+
+-- a line has an entry, where every train has a choice
+pub line-filled : {b : List ℤ} → Filled b → (side : Side) (k x : ℕ) → k < pairs b → 0 < lineRun side b k x .count
+line-filled {b} f Rows k x h = f .sizes (second b k) (f .seconds k h)
+line-filled {b} f Columns k x h = f .sizes (first b k) (f .firsts k h)
+
+pub move-shape : (r : Run) (α : ℤ) (b : List ℤ) → Fair r → SameShape b (moveRun r α b)
+move-shape r α b f =
     record {
-      whole = move-length from step count to α b;
-      kept = λ p h n. move-other from step count to α b p
-          (λ e. ⊎-elim (λ (g : to ≡ constantPlace). n (e ∙ g)) (λ (g : heldChoicesFrom ≤ to). omega arith) (f .goal))
+      whole = move-length r α b;
+      kept = λ p h n. move-other r α b p
+          (λ e. ⊎-elim (λ (g : r .to ≡ constantPlace). n (e ∙ g)) (λ (g : heldChoicesFrom ≤ r .to). omega arith) (f .goal))
           (λ i l e. omega (arith, f .costs));
     }
 
@@ -215,20 +221,18 @@ move-shape from step count to α b f =
 
 -- what is asked of a move, by its run, its block and the number that goes
 abbrev pub Asked : Type 1
-Asked = ℕ → ℕ → ℕ → ℕ → List ℤ → ℤ → Type 0
+Asked = Run → List ℤ → ℤ → Type 0
 
 -- c comes from b by at most n moves
 pub data Moved (R : Asked) (b : List ℤ) : ℕ → List ℤ → Type 0 where
   none : {n : ℕ} → Moved R b n b
-  move : {m n from step count to : ℕ} {c : List ℤ} (α : ℤ)
-      → m < n → Project b from step count to → R from step count to c α → Moved R b m c
-      → Moved R b n (moveRun from step count to α c)
+  move : {m n : ℕ} {run : Run} {c : List ℤ} (α : ℤ) → m < n → Project b run → R run c α → Moved R b m c → Moved R b n (moveRun run α c)
 
 -- with less asked
-pub moved-map : {R S : Asked} {b : List ℤ} → ((from step count to : ℕ) (c : List ℤ) (α : ℤ) → R from step count to c α → S from step count to c α)
+pub moved-map : {R S : Asked} {b : List ℤ} → ((run : Run) (c : List ℤ) (α : ℤ) → R run c α → S run c α)
     → {n : ℕ} {c : List ℤ} → Moved R b n c → Moved S b n c
 moved-map f none = none
-moved-map f (move α l p r w) = move α l p (f _ _ _ _ _ α r) (moved-map f w)
+moved-map f (move {run = run} α l p r w) = move α l p (f run _ α r) (moved-map f w)
 
 pub moved-as : {R : Asked} {b : List ℤ} {n : ℕ} {c d : List ℤ} → d ≡ c → Moved R b n c → Moved R b n d
 moved-as e w = rw e w
@@ -240,43 +244,27 @@ moved-more {n = n} h (move {m = i} α l p r w) = let q : i < n = omega arith in 
 module _ {R : Asked} {b : List ℤ} (s : Shapely b) where
   pub moved-shape : {n : ℕ} {c : List ℤ} → Moved R b n c → SameShape b c
   moved-shape none = shape-same b
-  moved-shape (move {c = c} α l p r w) = shape-then (moved-shape w) (move-shape _ _ _ _ α c (project-fair s p))
+  moved-shape (move {run = run} {c} α l p r w) = shape-then (moved-shape w) (move-shape run α c (project-fair s p))
 
   -- the same run, as a block on the way has it
   module _ {n : ℕ} {c : List ℤ} (w : Moved R b n c) where
-    pub moved-row : (m k a : ℕ) (α : ℤ) → n < m → k < pairs b → a < size b (first b k)
-        → R (heldEntryPlace k a 0) 1 (size b (second b k)) (heldChoicePlace (first b k) a) c α → Moved R b m (projectRow k a α c)
-    moved-row m k a α l h q r =
-        let e = moved-shape w in
-        rw (same-columns e s k (omega (arith, s .pairs)), same-first e k (omega (arith, s .pairs))) (move α l (row k a h q) r w)
+    pub moved-line : (side : Side) (m k x : ℕ) (α : ℤ) → n < m → k < pairs b → x < size b (lineTrain side b k)
+        → R (lineRun side b k x) c α → Moved R b m (project side k x α c)
+    moved-line side m k x α l h q r = rw (same-line (moved-shape w) s k (omega (arith, s .pairs)) side x) (move α l (line side k x h q) r w)
 
-    pub moved-column : (m k a : ℕ) (α : ℤ) → n < m → k < pairs b → a < size b (second b k)
-        → R (heldEntryPlace k 0 a) maxChoices (size b (first b k)) (heldChoicePlace (second b k) a) c α → Moved R b m (projectColumn k a α c)
-    moved-column m k a α l h q r =
-        let e = moved-shape w in
-        rw (same-rows e s k (omega (arith, s .pairs)), same-second e k (omega (arith, s .pairs))) (move α l (column k a h q) r w)
-
-    pub moved-unary : (m i : ℕ) (α : ℤ) → n < m → i < trains b
-        → R (heldChoicePlace i 0) 1 (size b i) constantPlace c α → Moved R b m (projectUnary i α c)
+    pub moved-unary : (m i : ℕ) (α : ℤ) → n < m → i < trains b → R (choicesRun b i) c α → Moved R b m (projectUnary i α c)
     moved-unary m i α l h r = rw (same-size (moved-shape w) i (omega (arith, s .trains))) (move α l (unary i h) r w)
 
   -- the folds of an operation: α is the number that goes, by turn and block
   module _ (α : ℕ → List ℤ → ℤ) where
-    pub rows-moved : (k : ℕ) → k < pairs b
-        → ((a : ℕ) (x : List ℤ) → SameShape b x → a < size b (first b k) → R (heldEntryPlace k a 0) 1 (size b (second b k)) (heldChoicePlace (first b k) a) x (α a x))
-        → (m n : ℕ) (c : List ℤ) → m ≤ size b (first b k) → Moved R b n c → Moved R b (n + m) (iter m (λ a x. projectRow k a (α a x) x) c)
-    rows-moved k h r m n c l w =
-        iter-ind (λ i x. Moved R b (n + i) x) m (λ a x. projectRow k a (α a x) x) c (rw add-zero w)
-        (λ a x q v. moved-row v (n + (a + 1)) k a (α a x) (omega arith) h (omega arith) (r a x (moved-shape v) (omega arith)))
+    pub lines-moved : (side : Side) (k : ℕ) → k < pairs b
+        → ((x : ℕ) (y : List ℤ) → SameShape b y → x < size b (lineTrain side b k) → R (lineRun side b k x) y (α x y))
+        → (m n : ℕ) (c : List ℤ) → m ≤ size b (lineTrain side b k) → Moved R b n c → Moved R b (n + m) (iter m (λ x y. project side k x (α x y) y) c)
+    lines-moved side k h r m n c l w =
+        iter-ind (λ i y. Moved R b (n + i) y) m (λ x y. project side k x (α x y) y) c (rw add-zero w)
+        (λ x y q v. moved-line v side (n + (x + 1)) k x (α x y) (omega arith) h (omega arith) (r x y (moved-shape v) (omega arith)))
 
-    pub columns-moved : (k : ℕ) → k < pairs b
-        → ((a : ℕ) (x : List ℤ) → SameShape b x → a < size b (second b k) → R (heldEntryPlace k 0 a) maxChoices (size b (first b k)) (heldChoicePlace (second b k) a) x (α a x))
-        → (m n : ℕ) (c : List ℤ) → m ≤ size b (second b k) → Moved R b n c → Moved R b (n + m) (iter m (λ a x. projectColumn k a (α a x) x) c)
-    columns-moved k h r m n c l w =
-        iter-ind (λ i x. Moved R b (n + i) x) m (λ a x. projectColumn k a (α a x) x) c (rw add-zero w)
-        (λ a x q v. moved-column v (n + (a + 1)) k a (α a x) (omega arith) h (omega arith) (r a x (moved-shape v) (omega arith)))
-
-    pub trains-moved : ((i : ℕ) (x : List ℤ) → SameShape b x → i < trains b → R (heldChoicePlace i 0) 1 (size b i) constantPlace x (α i x))
+    pub trains-moved : ((i : ℕ) (x : List ℤ) → SameShape b x → i < trains b → R (choicesRun b i) x (α i x))
         → (m n : ℕ) (c : List ℤ) → m ≤ trains b → Moved R b n c → Moved R b (n + m) (iter m (λ i x. projectUnary i (α i x) x) c)
     trains-moved r m n c l w =
         iter-ind (λ i x. Moved R b (n + i) x) m (λ i x. projectUnary i (α i x) x) c (rw add-zero w)

@@ -13,10 +13,12 @@ use Rattle.tables.specs.Plans.{IsPlan, choiceTotal, pairTotal, total, shapeOf, 
 use Rattle.tables.specs.WellFormed.{Study}
 use Rattle.tables.proofs.Range.{below-suc}
 use Rattle.tables.proofs.Plans.{same-shape-total}
-use Rattle.rewriting.specs.Moves.{Shapely, moveRun}
+use Rattle.rewriting.specs.declared.sides.Run.{Run}
+use Rattle.rewriting.specs.declared.sides.Side.the-variants.{Rows, Columns}
+use Rattle.rewriting.specs.Moves.{Shapely, moveRun, lineRun, choicesRun}
 use Rattle.rewriting.specs.Tighten.{Filled}
 use Rattle.rewriting.proofs.Runs.{Met, Missed, move-to, move-met, move-other}
-use Rattle.rewriting.proofs.Shape.{study-figure, study-shapely, study-filled, Project, row, column, unary, Fair, project-fair, fair-run, Asked, Moved, none, move, moved-shape}
+use Rattle.rewriting.proofs.Shape.{study-figure, study-shapely, study-filled, Project, line, unary, lines-most, Fair, project-fair, fair-run, Asked, Moved, none, move, moved-shape}
 
 -- ---- sums of whole numbers
 
@@ -100,85 +102,75 @@ module _ {b : List ℤ} {x : ℕ → ℕ} (t : Taken b x) where
 
 module _ {b : List ℤ} {x : ℕ → ℕ} (w : Taken b x) (c : List ℤ) (len : length c ≡ blockLength) (α : ℤ) where
   -- from entries of pair k, which the plan meets where it takes choice a of train t, to that choice
-  pair-move : (k t a from step count : ℕ) → Fair from step count (heldChoicePlace t a) → k < pairs b → t < trains b → a < maxChoices → heldEntriesFrom ≤ from
-      → (x t ≡ a → Met from step count (heldEntryPlace k (x (first b k)) (x (second b k))))
-      → ((l : ℕ) → l < pairs b → (l ≢ k) ⊎ (x t ≢ a) → Missed from step count (heldEntryPlace l (x (first b l)) (x (second b l))))
-      → paid b x (moveRun from step count (heldChoicePlace t a) α c) ≡ paid b x c
+  pair-move : (k t a : ℕ) (r : Run) → r .to ≡ heldChoicePlace t a → Fair r → k < pairs b → t < trains b → a < maxChoices → heldEntriesFrom ≤ r .from
+      → (x t ≡ a → Met r (heldEntryPlace k (x (first b k)) (x (second b k))))
+      → ((l : ℕ) → l < pairs b → (l ≢ k) ⊎ (x t ≢ a) → Missed r (heldEntryPlace l (x (first b l)) (x (second b l))))
+      → paid b x (moveRun r α c) ≡ paid b x c
   unfolding paid
-  pair-move k t a from step count f hk ht ha low hit miss = by (ℕ-discrete (x t) a)
+  pair-move k t a r to f hk ht ha low hit miss = by (ℕ-discrete (x t) a)
     where
-      off : (p : ℕ) → p ≢ heldChoicePlace t a → Missed from step count p → at (moveRun from step count (heldChoicePlace t a) α c) p ≡ at c p
-      off p n m = move-other from step count (heldChoicePlace t a) α c p n m
-
       -- the constant and the other choices stay, and so do the pairs that are missed
-      constant : at (moveRun from step count (heldChoicePlace t a) α c) constantPlace ≡ at c constantPlace
-      constant = off constantPlace (λ e. omega arith) (λ i l e. omega arith)
+      constant : at (moveRun r α c) constantPlace ≡ at c constantPlace
+      constant = move-other r α c constantPlace (λ e. omega arith) (λ i l e. omega arith)
 
-      choice : (i : ℕ) → i < trains b → (i ≢ t) ⊎ (x t ≢ a) → paidChoice b x (moveRun from step count (heldChoicePlace t a) α c) i ≡ paidChoice b x c i
+      choice : (i : ℕ) → i < trains b → (i ≢ t) ⊎ (x t ≢ a) → paidChoice b x (moveRun r α c) i ≡ paidChoice b x c i
       choice i h d =
           let q = taken-small w i h in
-          off (heldChoicePlace i (x i))
+          move-other r α c (heldChoicePlace i (x i))
           (λ e. let g : i ≡ t = omega arith in ⊎-elim (λ (n : i ≢ t). n g) (λ (n : x t ≢ a). n (sym (ap x g) ∙ (omega arith))) d)
           (λ j l e. omega arith)
 
-      pair : (l : ℕ) → l < pairs b → (l ≢ k) ⊎ (x t ≢ a) → paidPair b x (moveRun from step count (heldChoicePlace t a) α c) l ≡ paidPair b x c l
+      pair : (l : ℕ) → l < pairs b → (l ≢ k) ⊎ (x t ≢ a) → paidPair b x (moveRun r α c) l ≡ paidPair b x c l
       pair l h d =
           let q = taken-pair w l h in
           let g = taken-small w t ht in
-          off (heldEntryPlace l (x (first b l)) (x (second b l))) (λ e. omega arith) (miss l h d)
+          move-other r α c (heldEntryPlace l (x (first b l)) (x (second b l))) (λ e. omega arith) (miss l h d)
 
-      by : Dec (x t ≡ a) → paid b x (moveRun from step count (heldChoicePlace t a) α c) ≡ paid b x c
+      by : Dec (x t ≡ a) → paid b x (moveRun r α c) ≡ paid b x c
       by (yes e) =
-          let there : heldChoicePlace t a < length c = omega (arith, f .there) in
           parts-kept (unchanged constant)
           (record {
             by = sumℤ-one (trains b) t _ _ α ht (λ i h n. choice i h (inl n))
-                (move-to from step count (heldChoicePlace t a) α c (f .apart) (fair-run c len f) there (f .missed) (heldChoicePlace t (x t)) (ap (heldChoicePlace t) e));
+                (move-to r α c (fair-run c len f) (f .missed) (heldChoicePlace t (x t)) (ap (heldChoicePlace t) e ∙ sym to));
           })
-          (record {
-            by = sumℤ-one (pairs b) k _ _ (negℤ α) hk (λ l h n. pair l h (inl n))
-                (move-met from step count (heldChoicePlace t a) α c (f .apart) (fair-run c len f) there (f .missed) _ (hit e));
-          })
+          (record { by = sumℤ-one (pairs b) k _ _ (negℤ α) hk (λ l h n. pair l h (inl n)) (move-met r α c (fair-run c len f) (f .missed) _ (hit e)) })
           (ap (λ (z : ℤ). z +ℤ negℤ α) (+ℤ-idl α) ∙ +ℤ-invr α)
       by (no n) =
           parts-kept (unchanged constant) (unchanged (sumℤ-cong (trains b) _ _ (λ i h. choice i h (inr n))))
           (unchanged (sumℤ-cong (pairs b) _ _ (λ l h. pair l h (inr n)))) refl
 
   -- from every choice of train t, of which the plan takes one, to the constant
-  train-move : (t : ℕ) → t < trains b → paid b x (moveRun (heldChoicePlace t 0) 1 (size b t) constantPlace α c) ≡ paid b x c
+  train-move : (t : ℕ) → t < trains b → paid b x (moveRun (choicesRun b t) α c) ≡ paid b x c
   unfolding paid
   train-move t ht =
+      let r = choicesRun b t in
       let f = project-fair (w .shapely) (unary t ht) in
       let d = w .shapely .sizes t (taken-small w t ht .0) in
-      let there : constantPlace < length c = omega arith in
       parts-kept {p = at c constantPlace} {q = sumℤ (trains b) (paidChoice b x c)} {d = α} {e = negℤ α}
-      (record { by = move-to (heldChoicePlace t 0) 1 (size b t) constantPlace α c (f .apart) (fair-run c len f) there (f .missed) constantPlace refl })
+      (record { by = move-to r α c (fair-run c len f) (f .missed) constantPlace refl })
       (record {
         by = sumℤ-one (trains b) t _ _ (negℤ α) ht
-            (λ i h n. let q = taken-small w i h in move-other (heldChoicePlace t 0) 1 (size b t) constantPlace α c _ (λ e. omega arith) (λ j l e. n (omega arith)))
-            (move-met (heldChoicePlace t 0) 1 (size b t) constantPlace α c (f .apart) (fair-run c len f) there (f .missed) _
-            (record { turn = x t; below = w .plan t ht; is = omega arith }));
+            (λ i h n. let q = taken-small w i h in move-other r α c _ (λ e. omega arith) (λ j l e. n (omega arith)))
+            (move-met r α c (fair-run c len f) (f .missed) _ (record { turn = x t; below = w .plan t ht; is = omega arith }));
       })
-      (unchanged (sumℤ-cong (pairs b) _ _ (λ l h. move-other (heldChoicePlace t 0) 1 (size b t) constantPlace α c _ (λ e. omega arith) (λ i q e. omega (arith, d, taken-small w t ht)))))
+      (unchanged (sumℤ-cong (pairs b) _ _ (λ l h. move-other r α c _ (λ e. omega arith) (λ i q e. omega (arith, d, taken-small w t ht)))))
       (ap (λ (z : ℤ). z +ℤ pos 0) (+ℤ-invr α))
 
   -- every move of Algorithm 1
-  pub project-total : {from step count to : ℕ} → Project b from step count to → paid b x (moveRun from step count to α c) ≡ paid b x c
-  project-total (row k a h q) =
+  pub project-total : {r : Run} → Project b r → paid b x (moveRun r α c) ≡ paid b x c
+  project-total (line Rows k a h q) =
       let t = first b k in
-      let ht = w .filled .firsts k h in
-      let d = w .shapely .sizes t (taken-small w t ht .0) in
-      let g = w .shapely .sizes (second b k) (taken-small w (second b k) (w .filled .seconds k h) .0) in
-      pair-move k t a (heldEntryPlace k a 0) 1 (size b (second b k)) (project-fair (w .shapely) (row k a h q)) h ht (omega arith) (omega arith)
+      let d = lines-most (w .shapely) Rows k h in
+      let g = lines-most (w .shapely) Columns k h in
+      pair-move k t a (lineRun Rows b k a) refl (project-fair (w .shapely) (line Rows k a h q)) h (w .filled .firsts k h) (omega arith) (omega arith)
       (λ e. record { turn = x (second b k); below = w .plan (second b k) (w .filled .seconds k h); is = omega arith })
       (λ l hl n i r e. let z = taken-pair w l hl in let j : l ≡ k = omega arith in
       ⊎-elim (λ (m : l ≢ k). m j) (λ (m : x t ≢ a). m (ap (λ (y : ℕ). x (first b y)) (sym j) ∙ (omega arith))) n)
-  project-total (column k a h q) =
+  project-total (line Columns k a h q) =
       let t = second b k in
-      let ht = w .filled .seconds k h in
-      let d = w .shapely .sizes t (taken-small w t ht .0) in
-      let g = w .shapely .sizes (first b k) (taken-small w (first b k) (w .filled .firsts k h) .0) in
-      pair-move k t a (heldEntryPlace k 0 a) maxChoices (size b (first b k)) (project-fair (w .shapely) (column k a h q)) h ht (omega arith) (omega arith)
+      let d = lines-most (w .shapely) Columns k h in
+      let g = lines-most (w .shapely) Rows k h in
+      pair-move k t a (lineRun Columns b k a) refl (project-fair (w .shapely) (line Columns k a h q)) h (w .filled .seconds k h) (omega arith) (omega arith)
       (λ e. record { turn = x (first b k); below = w .plan (first b k) (w .filled .firsts k h); is = omega arith })
       (λ l hl n i r e. let z = taken-pair w l hl in let j : l ≡ k = omega arith in
       ⊎-elim (λ (m : l ≢ k). m j) (λ (m : x t ≢ a). m (ap (λ (y : ℕ). x (second b y)) (sym j) ∙ (omega arith))) n)

@@ -7,6 +7,9 @@ use lib.ListN.{length, set}
 use lib.Signed.{mag}
 use Rattle.tables.specs.Block.{blockLength, maxTrains, maxChoices, maxPairs, constantPlace, heldChoicePlace, heldEntryPlace, at, trains, pairs, size, first, second}
 use Rattle.operations.specs.Fold.{iter}
+use Rattle.rewriting.specs.declared.sides.Run.{Run}
+use Rattle.rewriting.specs.declared.sides.Side.{Side}
+use Rattle.rewriting.specs.declared.sides.Side.the-variants.{Rows, Columns}
 
 -- every number of the block is at most h away from 0: what keeps sums within 64 bits
 pub record Room (b : List ℤ) (h : ℕ) : Type 0 where
@@ -25,26 +28,42 @@ pub record Shapely (b : List ℤ) : Type 0 where
 abbrev pub addAt : ℕ → ℤ → List ℤ → List ℤ
 addAt p z b = set b p (at b p +ℤ z)
 
--- z is added at `count` places, `step` apart, from `from` on
-abbrev pub addRun : ℕ → ℕ → ℕ → ℤ → List ℤ → List ℤ
-addRun from step count z b = iter count (λ i. addAt (from + step * i) z) b
+-- place i of a run
+abbrev pub runPlace : Run → ℕ → ℕ
+runPlace r i = r .from + r .step * i
 
--- the places of a run are places of the block
-pub record RunIn (b : List ℤ) (from step count : ℕ) : Type 0 where
-  pub inside : (i : ℕ) → i < count → from + step * i < length b
+-- z is added at each place of a run
+abbrev pub addRun : Run → ℤ → List ℤ → List ℤ
+addRun r z b = iter (r .count) (λ i. addAt (runPlace r i) z) b
 
--- α goes from each place of a run to place `to`
-unfoldable pub moveRun : ℕ → ℕ → ℕ → ℕ → ℤ → List ℤ → List ℤ
-moveRun from step count to α b = addRun from step count (negℤ α) (addAt to α b)
+-- the places of a run, which differ, and the place that its costs go to are places of the block
+pub record RunIn (b : List ℤ) (r : Run) : Type 0 where
+  pub apart : 0 < r .step
+  pub inside : (i : ℕ) → i < r .count → runPlace r i < length b
+  pub there : r .to < length b
 
--- Project: α goes from row a of pair k to choice a of its first train
-abbrev pub projectRow : ℕ → ℕ → ℤ → List ℤ → List ℤ
-projectRow k a α b = moveRun (heldEntryPlace k a 0) 1 (size b (second b k)) (heldChoicePlace (first b k) a) α b
+-- α goes from each place of a run to where its costs go
+unfoldable pub moveRun : Run → ℤ → List ℤ → List ℤ
+moveRun r α b = addRun r (negℤ α) (addAt (r .to) α b)
 
--- Project: α goes from column c of pair k to choice c of its second train
-abbrev pub projectColumn : ℕ → ℕ → ℤ → List ℤ → List ℤ
-projectColumn k c α b = moveRun (heldEntryPlace k 0 c) maxChoices (size b (first b k)) (heldChoicePlace (second b k) c) α b
+-- the train of pair k that has a choice for each line of a side
+abbrev pub lineTrain : Side → List ℤ → ℕ → ℕ
+lineTrain Rows b k = first b k
+lineTrain Columns b k = second b k
+
+-- line x of pair k: its entries, and choice x of the side's train
+abbrev pub lineRun : Side → List ℤ → ℕ → ℕ → Run
+lineRun Rows b k x = record { from = heldEntryPlace k x 0; step = 1; count = size b (second b k); to = heldChoicePlace (first b k) x }
+lineRun Columns b k x = record { from = heldEntryPlace k 0 x; step = maxChoices; count = size b (first b k); to = heldChoicePlace (second b k) x }
+
+-- the choices of train i, and the constant
+abbrev pub choicesRun : List ℤ → ℕ → Run
+choicesRun b i = record { from = heldChoicePlace i 0; step = 1; count = size b i; to = constantPlace }
+
+-- Project: α goes from line x of pair k to choice x of the side's train
+abbrev pub project : Side → ℕ → ℕ → ℤ → List ℤ → List ℤ
+project side k x α b = moveRun (lineRun side b k x) α b
 
 -- UnaryProject: α goes from each choice of train i to the constant
 abbrev pub projectUnary : ℕ → ℤ → List ℤ → List ℤ
-projectUnary i α b = moveRun (heldChoicePlace i 0) 1 (size b i) constantPlace α b
+projectUnary i α b = moveRun (choicesRun b i) α b

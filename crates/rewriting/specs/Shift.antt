@@ -5,11 +5,13 @@ use lib.IntN.{ℤ}
 use lib.Signed.{mag}
 use Rattle.tables.specs.Runs.{movesBefore}
 use Rattle.tables.specs.Ranges.{maxMove}
-use Rattle.tables.specs.Block.{at, trains, pairs, size, first, second}
+use Rattle.tables.specs.Block.{at, trains, pairs, size, first}
 use Rattle.operations.specs.declared.outcome.Outcome.{Outcome}
 use Rattle.operations.specs.Fold.{iter}
+use Rattle.rewriting.specs.declared.sides.Side.{Side}
+use Rattle.rewriting.specs.declared.sides.Side.the-variants.{Rows, Columns}
 use Rattle.rewriting.specs.Outcome.{judged, judgedBlock}
-use Rattle.rewriting.specs.Moves.{projectRow, projectColumn, projectUnary}
+use Rattle.rewriting.specs.Moves.{lineTrain, project, projectUnary}
 
 -- 11, 'lift outside 0 to 10^12, move outside ±10^12', is judged before: none is further from 0
 pub record SmallMoves (l : List ℤ) : Type 0 where
@@ -19,16 +21,13 @@ pub record SmallMoves (l : List ℤ) : Type 0 where
 abbrev pub lifted : List ℤ → List ℤ → List ℤ
 lifted lifts b = iter (trains b) (λ i. projectUnary i (at lifts i)) b
 
--- the moves p_i,a of pair k, which begin at `start`
-abbrev pub rowsShifted : List ℤ → ℕ → ℕ → List ℤ → List ℤ
-rowsShifted moves start k b = iter (size b (first b k)) (λ a. projectRow k a (at moves (start + a))) b
+-- the moves of one train of pair k, which begin at `start`: p_i,a by row, or p_j,b by column
+abbrev pub linesShifted : Side → List ℤ → ℕ → ℕ → List ℤ → List ℤ
+linesShifted side moves start k b = iter (size b (lineTrain side b k)) (λ x. project side k x (at moves (start + x))) b
 
--- the moves p_j,b of pair k, which begin at `start`
-abbrev pub columnsShifted : List ℤ → ℕ → ℕ → List ℤ → List ℤ
-columnsShifted moves start k b = iter (size b (second b k)) (λ c. projectColumn k c (at moves (start + c))) b
-
+-- 'for each pair the moves p_i,a by a, then p_j,b by b'
 unfoldable pub pairShifted : List ℤ → ℕ → ℕ → List ℤ → List ℤ
-pairShifted moves start k b = columnsShifted moves (start + size b (first b k)) k (rowsShifted moves start k b)
+pairShifted moves start k b = linesShifted Columns moves (start + size b (first b k)) k (linesShifted Rows moves start k b)
 
 -- all pairs of the block, whose moves begin where the shape of b says
 abbrev pub pairsShifted : List ℤ → List ℤ → List ℤ

@@ -1,13 +1,16 @@
 -- Document 01, '04 tighten'.
 use mathlib.Core.Path.{_≡_}
 use mathlib.Core.List.{List}
-use Prim.Native.Nat.{ℕ, _+_, _*_, _-_, _<_, _≤_}
+use Prim.Native.Nat.{ℕ, _-_, _<_, _≤_}
 use lib.IntN.{ℤ, pos}
-use Rattle.tables.specs.Block.{maxChoices, maxParts, constantPlace, heldEntriesFrom, heldChoicePlace, heldEntryPlace, at, figure, trains, pairs, size, first, second}
+use Rattle.tables.specs.Block.{maxParts, heldEntriesFrom, at, figure, trains, pairs, size, first, second}
 use Rattle.operations.specs.declared.outcome.Outcome.{Outcome}
 use Rattle.operations.specs.Fold.{iter, least}
+use Rattle.rewriting.specs.declared.sides.Run.{Run}
+use Rattle.rewriting.specs.declared.sides.Side.{Side}
+use Rattle.rewriting.specs.declared.sides.Side.the-variants.{Rows, Columns}
 use Rattle.rewriting.specs.Outcome.{judged, judgedBlock}
-use Rattle.rewriting.specs.Moves.{moveRun}
+use Rattle.rewriting.specs.Moves.{runPlace, moveRun, lineTrain, lineRun, choicesRun}
 
 -- no number of the block is below 0, and no entry of a pair above L: so it stays while a study is tightened
 pub record Natural (b : List ℤ) : Type 0 where
@@ -20,35 +23,28 @@ pub record Filled (b : List ℤ) : Type 0 where
   pub firsts : (k : ℕ) → k < pairs b → first b k < trains b
   pub seconds : (k : ℕ) → k < pairs b → second b k < trains b
 
--- the least of `count` figures, `step` apart, from `from` on
-unfoldable pub runLeast : ℕ → ℕ → ℕ → List ℤ → ℕ
-runLeast from step count b = least (count - 1) (λ i. figure b (from + step * i))
+-- the least figure of a run
+unfoldable pub runLeast : Run → List ℤ → ℕ
+runLeast r b = least (r .count - 1) (λ i. figure b (runPlace r i))
 
--- the least of a run goes from each place of the run to place `to`
-unfoldable pub runTightened : ℕ → ℕ → ℕ → ℕ → List ℤ → List ℤ
-runTightened from step count to b = moveRun from step count to (pos (runLeast from step count b)) b
-
--- 'the least c_ij(a,b) over b moves from that row to c_i(a)'
-abbrev pub rowTightened : ℕ → ℕ → List ℤ → List ℤ
-rowTightened k a b = runTightened (heldEntryPlace k a 0) 1 (size b (second b k)) (heldChoicePlace (first b k) a) b
-
--- 'Then for each b ascending the least over a moves to c_j(b)'
-abbrev pub columnTightened : ℕ → ℕ → List ℤ → List ℤ
-columnTightened k c b = runTightened (heldEntryPlace k 0 c) maxChoices (size b (first b k)) (heldChoicePlace (second b k) c) b
+-- the least of a run goes from each of its places to where its costs go
+unfoldable pub runTightened : Run → List ℤ → List ℤ
+runTightened r b = moveRun r (pos (runLeast r b)) b
 
 -- 'by train, the least c_i(a) is taken off every choice and added to c0'
 abbrev pub trainTightened : ℕ → List ℤ → List ℤ
-trainTightened i b = runTightened (heldChoicePlace i 0) 1 (size b i) constantPlace b
+trainTightened i b = runTightened (choicesRun b i) b
 
--- 'for each a ascending'
-abbrev pub rowsTightened : ℕ → List ℤ → List ℤ
-rowsTightened k b = iter (size b (first b k)) (rowTightened k) b
+-- the least of line x of pair k goes to choice x of the side's train
+abbrev pub lineTightened : Side → ℕ → ℕ → List ℤ → List ℤ
+lineTightened side k x b = runTightened (lineRun side b k x) b
 
-abbrev pub columnsTightened : ℕ → List ℤ → List ℤ
-columnsTightened k b = iter (size b (second b k)) (columnTightened k) b
+abbrev pub linesTightened : Side → ℕ → List ℤ → List ℤ
+linesTightened side k b = iter (size b (lineTrain side b k)) (lineTightened side k) b
 
+-- 'for each a ascending, the least c_ij(a,b) over b moves from that row to c_i(a). Then for each b ascending the least over a moves to c_j(b)'
 unfoldable pub pairTightened : ℕ → List ℤ → List ℤ
-pairTightened k b = columnsTightened k (rowsTightened k b)
+pairTightened k b = linesTightened Columns k (linesTightened Rows k b)
 
 -- 'For each pair in order'
 abbrev pub pairsTightened : List ℤ → List ℤ

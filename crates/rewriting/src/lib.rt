@@ -2,4 +2,5 @@
 mod moves;
 mod outcome;
 pub mod shift;
+mod sides;
 pub mod tighten;

@@ -5,10 +5,12 @@ ghost use lib.ListN.{length};
 ghost use Rattle.tables.specs.Block.{maxParts, trains, pairs, size, first, second};
 ghost use Rattle.tables.specs.WellFormed.{Study};
 ghost use Rattle.tables.specs.Runs.{movesBefore};
-ghost use Rattle.rewriting.specs.Moves.{Room, Shapely};
-ghost use Rattle.rewriting.specs.Shift.{SmallMoves, lifted, rowsShifted, columnsShifted, pairShifted, pairsShifted, shiftOutcome, shiftBlock};
+ghost use Rattle.rewriting.specs.Moves.{Room, Shapely, lineTrain};
+ghost use Rattle.rewriting.specs.Shift.{SmallMoves, lifted, linesShifted, pairShifted, pairsShifted, shiftOutcome, shiftBlock};
 use crate::moves;
 use crate::outcome;
+use crate::sides;
+use crate::sides::Side;
 use operations::outcome::Outcome;
 use tables::block;
 use tables::block::Block;
@@ -60,37 +62,23 @@ fn shift_pair(b: &mut [i64], moves: &[i64], start: usize, k: usize) -> usize
     requires { ⌜ start + size (now b) (first (now b) k) + size (now b) (second (now b) k) ≤ length (now moves) ⌝ }
     ensures { λ r. ⌜ (r ≡ start + (size (now (b .entry)) (first (now (b .entry)) k) + size (now (b .entry)) (second (now (b .entry)) k))) × (now (b .exit) ≡ pairShifted (now (moves .entry)) start k (now (b .entry))) ⌝ }
 {
-    let rows = block::size(b, block::first(b, k));
-    let columns = block::size(b, block::second(b, k));
-    shift_rows(b, moves, start, k);
-    shift_columns(b, moves, start + rows, k);
+    let rows = sides::lines(b, k, Side::Rows);
+    let columns = sides::lines(b, k, Side::Columns);
+    shift_lines(b, moves, start, k, Side::Rows);
+    shift_lines(b, moves, start + rows, k, Side::Columns);
     start + (rows + columns)
 }
 
-// Moves p_i,a from each row a of pair k, to choice a of its first train.
-fn shift_rows(b: &mut [i64], moves: &[i64], start: usize, k: usize)
+// Moves p_i,a from each row a of pair k to choice a of its first train, or p_j,b from each column b to choice b of its second.
+fn shift_lines(b: &mut [i64], moves: &[i64], start: usize, k: usize, side: Side)
     requires { ⌜ (Shapely (now b)) × (Room (now b) (2 ^ 53)) × (k < pairs (now b)) × (SmallMoves (now moves)) ⌝ }
-    requires { ⌜ start + size (now b) (first (now b) k) ≤ length (now moves) ⌝ }
-    ensures { λ _. ⌜ now (b .exit) ≡ rowsShifted (now (moves .entry)) start k (now (b .entry)) ⌝ }
+    requires { ⌜ start + size (now b) (lineTrain side (now b) k) ≤ length (now moves) ⌝ }
+    ensures { λ _. ⌜ now (b .exit) ≡ linesShifted side (now (moves .entry)) start k (now (b .entry)) ⌝ }
 {
-    let rows = block::size(b, block::first(b, k));
-    let mut a = 0;
-    while a < rows {
-        moves::project_row(b, k, a, moves[start + a]);
-        a += 1;
-    }
-}
-
-// Moves p_j,b from each column b of pair k, to choice b of its second train.
-fn shift_columns(b: &mut [i64], moves: &[i64], start: usize, k: usize)
-    requires { ⌜ (Shapely (now b)) × (Room (now b) (2 ^ 53)) × (k < pairs (now b)) × (SmallMoves (now moves)) ⌝ }
-    requires { ⌜ start + size (now b) (second (now b) k) ≤ length (now moves) ⌝ }
-    ensures { λ _. ⌜ now (b .exit) ≡ columnsShifted (now (moves .entry)) start k (now (b .entry)) ⌝ }
-{
-    let columns = block::size(b, block::second(b, k));
-    let mut c = 0;
-    while c < columns {
-        moves::project_column(b, k, c, moves[start + c]);
-        c += 1;
+    let n = sides::lines(b, k, side);
+    let mut x = 0;
+    while x < n {
+        moves::project(b, k, side, x, moves[start + x]);
+        x += 1;
     }
 }

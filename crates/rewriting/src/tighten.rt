@@ -1,13 +1,15 @@
 // Document 01, '04 tighten'.
 ghost use mathlib.Core.Path.{_≡_};
-ghost use Prim.Native.Nat.{_+_, _*_, _<_, _^_};
-ghost use lib.ListN.{length};
-ghost use Rattle.tables.specs.Block.{maxParts, trains, pairs, size, first, second};
+ghost use Prim.Native.Nat.{_<_, _^_};
+ghost use Rattle.tables.specs.Block.{maxParts, trains, pairs, size};
 ghost use Rattle.tables.specs.WellFormed.{Study};
-ghost use Rattle.rewriting.specs.Moves.{RunIn, Room, Shapely};
-ghost use Rattle.rewriting.specs.Tighten.{Filled, Natural, runLeast, runTightened, rowTightened, columnTightened, trainTightened, rowsTightened, columnsTightened, pairTightened, pairsTightened, trainsTightened, tightenOutcome, tightenBlock};
+ghost use Rattle.rewriting.specs.Moves.{RunIn, Room, Shapely, lineTrain};
+ghost use Rattle.rewriting.specs.Tighten.{Filled, Natural, runLeast, runTightened, lineTightened, linesTightened, trainTightened, pairTightened, pairsTightened, trainsTightened, tightenOutcome, tightenBlock};
 use crate::moves;
 use crate::outcome;
+use crate::sides;
+use crate::sides::Run;
+use crate::sides::Side;
 use operations::outcome::Outcome;
 use tables::block;
 use tables::block::Block;
@@ -26,16 +28,16 @@ pub fn tighten(block: &mut [i64]) -> Outcome
     outcome::settle(block, &end)
 }
 
-// The least of `count` numbers, `step` apart, from `from` on.
-fn run_least(b: &[i64], from: usize, step: usize, count: usize) -> u64
-    requires { ⌜ (RunIn (now b) from step count) × (0 < step) × (0 < count) ⌝ }
-    ensures { λ r. ⌜ r ≡ runLeast from step count (now (b .entry)) ⌝ }
+// The least number of a run.
+fn run_least(b: &[i64], run: Run) -> u64
+    requires { ⌜ (RunIn (now b) run) × (0 < run .count) ⌝ }
+    ensures { λ r. ⌜ r ≡ runLeast run (now (b .entry)) ⌝ }
 {
-    let mut least = places::get(b, from);
+    let mut least = places::get(b, run.from);
     let mut i = 0;
-    while i + 1 < count {
+    while i + 1 < run.count {
         i += 1;
-        let x = places::get(b, from + step * i);
+        let x = places::get(b, run.from + run.step * i);
         if x < least {
             least = x;
         }
@@ -43,45 +45,21 @@ fn run_least(b: &[i64], from: usize, step: usize, count: usize) -> u64
     least
 }
 
-// Moves the least of a run to place `to`.
-fn tighten_run(b: &mut [i64], from: usize, step: usize, count: usize, to: usize)
-    requires { ⌜ (RunIn (now b) from step count) × (0 < step) × (0 < count) × (to < length (now b)) × (Room (now b) (2 ^ 57)) ⌝ }
-    ensures { λ _. ⌜ now (b .exit) ≡ runTightened from step count to (now (b .entry)) ⌝ }
+// Moves the least of a run to where its costs go.
+fn tighten_run(b: &mut [i64], run: Run)
+    requires { ⌜ (RunIn (now b) run) × (0 < run .count) × (Room (now b) (2 ^ 57)) ⌝ }
+    ensures { λ _. ⌜ now (b .exit) ≡ runTightened run (now (b .entry)) ⌝ }
 {
-    let least = run_least(b, from, step, count);
-    moves::move_run(b, from, step, count, to, least as i64);
+    let least = run_least(b, run);
+    moves::move_run(b, run, least as i64);
 }
 
-// Moves the least of row a of pair k to choice a of its first train.
-fn tighten_row(b: &mut [i64], k: usize, a: usize)
-    requires { ⌜ (Shapely (now b)) × (Filled (now b)) × (Room (now b) (2 ^ 57)) × (k < pairs (now b)) × (a < size (now b) (first (now b) k)) ⌝ }
-    ensures { λ _. ⌜ now (b .exit) ≡ rowTightened k a (now (b .entry)) ⌝ }
+// Moves the least of line x of pair k to choice x of the side's train.
+fn tighten_line(b: &mut [i64], k: usize, side: Side, x: usize)
+    requires { ⌜ (Shapely (now b)) × (Filled (now b)) × (Room (now b) (2 ^ 57)) × (k < pairs (now b)) × (x < size (now b) (lineTrain side (now b) k)) ⌝ }
+    ensures { λ _. ⌜ now (b .exit) ≡ lineTightened side k x (now (b .entry)) ⌝ }
 {
-    let columns = block::size(b, block::second(b, k));
-    let to = block::choice_place(Block::HELD_CHOICES_FROM, block::first(b, k), a);
-    tighten_run(
-        b,
-        block::entry_place(Block::HELD_ENTRIES_FROM, k, a, 0),
-        1,
-        columns,
-        to,
-    );
-}
-
-// Moves the least of column c of pair k to choice c of its second train.
-fn tighten_column(b: &mut [i64], k: usize, c: usize)
-    requires { ⌜ (Shapely (now b)) × (Filled (now b)) × (Room (now b) (2 ^ 57)) × (k < pairs (now b)) × (c < size (now b) (second (now b) k)) ⌝ }
-    ensures { λ _. ⌜ now (b .exit) ≡ columnTightened k c (now (b .entry)) ⌝ }
-{
-    let rows = block::size(b, block::first(b, k));
-    let to = block::choice_place(Block::HELD_CHOICES_FROM, block::second(b, k), c);
-    tighten_run(
-        b,
-        block::entry_place(Block::HELD_ENTRIES_FROM, k, 0, c),
-        Block::CHOICES,
-        rows,
-        to,
-    );
+    tighten_run(b, sides::line(b, k, side, x));
 }
 
 // Moves the least of the choices of train i to the constant.
@@ -89,13 +67,7 @@ fn tighten_train(b: &mut [i64], i: usize)
     requires { ⌜ (Shapely (now b)) × (Filled (now b)) × (Room (now b) (2 ^ 57)) × (i < trains (now b)) ⌝ }
     ensures { λ _. ⌜ now (b .exit) ≡ trainTightened i (now (b .entry)) ⌝ }
 {
-    tighten_run(
-        b,
-        block::choice_place(Block::HELD_CHOICES_FROM, i, 0),
-        1,
-        block::size(b, i),
-        Block::CONSTANT_PLACE,
-    );
+    tighten_run(b, sides::choices(b, i));
 }
 
 // Tightens each row of pair k, then each column.
@@ -103,33 +75,20 @@ fn tighten_pair(b: &mut [i64], k: usize)
     requires { ⌜ (Shapely (now b)) × (Filled (now b)) × (Natural (now b)) × (Room (now b) (2 ^ 50)) × (k < pairs (now b)) ⌝ }
     ensures { λ _. ⌜ now (b .exit) ≡ pairTightened k (now (b .entry)) ⌝ }
 {
-    tighten_rows(b, k);
-    tighten_columns(b, k);
+    tighten_lines(b, k, Side::Rows);
+    tighten_lines(b, k, Side::Columns);
 }
 
-// Moves the least of each row a of pair k to choice a of its first train.
-fn tighten_rows(b: &mut [i64], k: usize)
+// Moves the least of each line of pair k to the line's own choice.
+fn tighten_lines(b: &mut [i64], k: usize, side: Side)
     requires { ⌜ (Shapely (now b)) × (Filled (now b)) × (Natural (now b)) × (Room (now b) (2 ^ 51)) × (k < pairs (now b)) ⌝ }
-    ensures { λ _. ⌜ now (b .exit) ≡ rowsTightened k (now (b .entry)) ⌝ }
+    ensures { λ _. ⌜ now (b .exit) ≡ linesTightened side k (now (b .entry)) ⌝ }
 {
-    let rows = block::size(b, block::first(b, k));
-    let mut a = 0;
-    while a < rows {
-        tighten_row(b, k, a);
-        a += 1;
-    }
-}
-
-// Moves the least of each column c of pair k to choice c of its second train.
-fn tighten_columns(b: &mut [i64], k: usize)
-    requires { ⌜ (Shapely (now b)) × (Filled (now b)) × (Natural (now b)) × (Room (now b) (2 ^ 51)) × (k < pairs (now b)) ⌝ }
-    ensures { λ _. ⌜ now (b .exit) ≡ columnsTightened k (now (b .entry)) ⌝ }
-{
-    let columns = block::size(b, block::second(b, k));
-    let mut c = 0;
-    while c < columns {
-        tighten_column(b, k, c);
-        c += 1;
+    let n = sides::lines(b, k, side);
+    let mut x = 0;
+    while x < n {
+        tighten_line(b, k, side, x);
+        x += 1;
     }
 }
 

@@ -32,7 +32,7 @@ chain : (l : tie.At-loop Inv-loop μ-loop) → Moved Small (l .before .before .b
 chain l =
     let s = l .before .before .before in
     moved-as (l .loop .inv .2)
-    (lifts-moved (s .pre .0) (s .args .lifts .now) (λ f d n t x i. s .pre .3 .small i) (l .loop .i) 0 (s .args .b .now) (omega (arith, l .before .trains .ensures)) none)
+    (lifts-moved (s .pre .0) (s .args .lifts .now) (λ r x i. s .pre .3 .small i) (l .loop .i) 0 (s .args .b .now) (omega (arith, l .before .trains .ensures)) none)
 
 mul-project-unary : tie.Need-mul-project-unary Inv-loop μ-loop
 mul-project-unary c = search needs

@@ -38,7 +38,7 @@ shift-pairs-requires c κs =
     let h = study-shapely (s .pre .0 .0) in
     let w : Moved Small b (0 + trains b) (l .lift-trains .last .0) =
     moved-as (rw (l .before .before .before .copy .ensures) at (l .lift-trains .ensures))
-    (lifts-moved h (s .args .lifts .now) (λ f d n t x i. s .pre .1 .0 .small i) (trains b) 0 b (omega arith) none) in
+    (lifts-moved h (s .args .lifts .now) (λ r x i. s .pre .1 .0 .small i) (trains b) 0 b (omega arith) none) in
     let e = moved-shape h w in (
       shapely-kept e h,
       room-more (2 ^ 48) (moved-room h maxParts (study-room (s .pre .0 .0)) w) (omega (arith, h .trains)),

@@ -1,67 +1,51 @@
 -- The rows, then the columns: of the same sizes, since a chain of moves keeps the shape.
 use borrow.Author.Needs.{needs}
-use mathlib.Core.Path.{_≡_, ap, _∙_}
 use Prim.Native.Nat.{_+_, _^_}
 use native.Mathlib.Omega.{arith}
-use Rattle.tables.specs.Block.{size, first, second}
+use Rattle.tables.specs.Block.{size, first}
 use Rattle.tables.proofs.Study.{same-pairs}
+use Rattle.rewriting.specs.declared.sides.Side.the-variants.{Rows, Columns}
 use Rattle.rewriting.proofs.Runs.{room-more}
-use Rattle.rewriting.proofs.Shape.{Moved, none, moved-as, moved-shape, shapely-kept, same-columns}
-use Rattle.rewriting.proofs.Rooms.{Small, moved-room, rows-shifted, pair-by}
+use Rattle.rewriting.proofs.Shape.{Moved, none, moved-as, moved-shape, shapely-kept, same-lines, lines-most}
+use Rattle.rewriting.proofs.Rooms.{Small, moved-room, lines-shifted, pair-by}
 use Rattle.rewriting.proofs.shift.shift_pair.Statement.{statement}
 use Rattle.rewriting.proofs.shift.shift_pair.Tie as tie
 
-first-requires : tie.Need-first-requires
-first-requires c κs = search needs
+lines-requires : tie.Need-lines-requires
+lines-requires c κs = search needs
 
-size-requires : tie.Need-size-requires
-size-requires c κs = let s = c .before .before in (s .pre .0 .0 .whole, omega (arith, c .first .ensures, s .pre .0 .0 .firsts (s .args .k) (omega (arith, s .pre .0 .0 .pairs))))
+lines-requires-2 : tie.Need-lines-requires-2
+lines-requires-2 c κs = search needs
 
-second-requires : tie.Need-second-requires
-second-requires c κs = search needs
-
-size-requires-2 : tie.Need-size-requires-2
-size-requires-2 c κs =
+shift-lines-requires : tie.Need-shift-lines-requires
+shift-lines-requires c κs =
     let s = c .before .before .before .before .before in
-    (s .pre .0 .0 .whole, omega (arith, c .second .ensures, s .pre .0 .0 .seconds (s .args .k) (omega (arith, s .pre .0 .0 .pairs))))
+    ((s .pre .0 .0, room-more (2 ^ 53) (s .pre .0 .1) (omega arith), s .pre .0 .2, s .pre .0 .3), omega arith)
 
--- what is known once both sizes are read
-module _ (d : tie.After-size2) where
-  abbrev s : tie.Start
-  s = d .before .before .before .before .before .before
+add-shift-lines : tie.Need-add-shift-lines
+add-shift-lines c = let d = c .before .before .before .before in record { fits = omega (arith, d .lines2 .ensures, d .before .before .lines .ensures) }
 
-  rows : d .before .before .before .size .result ≡ size (s .args .b .now) (first (s .args .b .now) (s .args .k))
-  rows = d .before .before .before .size .ensures ∙ ap (size (s .args .b .now)) (d .before .before .before .before .first .ensures)
-
-  columns : d .size2 .result ≡ size (s .args .b .now) (second (s .args .b .now) (s .args .k))
-  columns = d .size2 .ensures ∙ ap (size (s .args .b .now)) (d .before .second .ensures)
-
-shift-rows-requires : tie.Need-shift-rows-requires
-shift-rows-requires c κs = let s = c .before .before .before .before .before .before .before in ((s .pre .0 .0, room-more (2 ^ 53) (s .pre .0 .1) (omega arith), s .pre .0 .2, s .pre .0 .3), omega arith)
-
-add-shift-columns : tie.Need-add-shift-columns
-add-shift-columns c = let d = c .before .before .before .before in record { fits = omega (arith, rows d, columns d) }
-
-shift-columns-requires : tie.Need-shift-columns-requires
-shift-columns-requires c κs =
+shift-lines-requires-2 : tie.Need-shift-lines-requires-2
+shift-lines-requires-2 c κs =
     let r = c .before .before in
     let d = r .before .before in
-    let s = d .before .before .before .before .before .before in
+    let s = d .before .before .before .before in
     let h = s .pre .0 .0 in
-    let f = h .sizes (first (s .args .b .now) (s .args .k)) (h .firsts (s .args .k) (omega (arith, h .pairs))) in
-    let w : Moved Small (s .args .b .now) (0 + size (s .args .b .now) (first (s .args .b .now) (s .args .k))) (r .shift-rows .last .0) =
-    moved-as (r .shift-rows .ensures)
-    (rows-shifted h (s .args .moves .now) (λ f d n t x i. s .pre .0 .3 .small i) (s .args .start) (s .args .k) _ 0 (s .args .b .now) (s .pre .0 .2) (omega arith) none) in
+    let b = s .args .b .now in
+    let f = lines-most h Rows (s .args .k) (s .pre .0 .2) in
+    let w : Moved Small b (0 + size b (first b (s .args .k))) (r .shift-lines .last .0) =
+    moved-as (r .shift-lines .ensures)
+    (lines-shifted h (s .args .moves .now) (λ r x i. s .pre .0 .3 .small i) Rows (s .args .start) (s .args .k) _ 0 b (s .pre .0 .2) (omega arith) none) in
     let e = moved-shape h w in (
       (shapely-kept e h, room-more (2 ^ 53) (moved-room h (2 ^ 52) (s .pre .0 .1) w) (omega arith), omega (arith, same-pairs e), s .pre .0 .3),
-      omega (arith, rows d, same-columns e h (s .args .k) (omega (arith, h .pairs))),
+      omega (arith, d .before .before .lines .ensures, same-lines e h (s .args .k) (omega (arith, h .pairs)) Columns),
     )
 
 add-result : tie.Need-add-result
-add-result c = let d = c .before .before .before .before .before .before in record { fits = omega (arith, rows d, columns d) }
+add-result c = let d = c .before .before .before .before .before .before in record { fits = omega (arith, d .lines2 .ensures, d .before .before .lines .ensures) }
 
 add-result-2 : tie.Need-add-result-2
-add-result-2 c = let d = c .before .before .before .before .before .before in record { fits = omega (arith, rows d, columns d) }
+add-result-2 c = let d = c .before .before .before .before .before .before in record { fits = omega (arith, d .lines2 .ensures, d .before .before .lines .ensures) }
 
 same-length : tie.Need-same-length
 same-length c = search needs
@@ -70,20 +54,19 @@ returns : tie.Need-returns
 returns c =
     let r = c .before .before .before .before in
     let d = r .before .before in
-    let a = d .before .before .before .before .before .before .args in
-    (omega (arith, rows d, columns d), pair-by (a .moves .now) (a .start) (a .k) (a .b .now) (rows d) (r .shift-rows .ensures) (c .before .shift-columns .ensures))
+    let a = d .before .before .before .before .args in
+    let rows = d .before .before .lines .ensures in
+    (omega (arith, rows, d .lines2 .ensures), pair-by (a .moves .now) (a .start) (a .k) (a .b .now) rows (r .shift-lines .ensures) (c .before .shift-lines2 .ensures))
 
 pub shift-pair-spec : {M : Type 1} → statement M
 shift-pair-spec =
     tie.close
     (tie.spec
-    first-requires
-    size-requires
-    second-requires
-    size-requires-2
-    shift-rows-requires
-    add-shift-columns
-    shift-columns-requires
+    lines-requires
+    lines-requires-2
+    shift-lines-requires
+    add-shift-lines
+    shift-lines-requires-2
     add-result
     add-result-2
     same-length

@@ -10,9 +10,10 @@ use Rattle.tables.proofs.Sum.{sum-none, sum-more}
 use Rattle.tables.proofs.Study.{same-pairs}
 use Rattle.operations.specs.Fold.{iter}
 use Rattle.operations.proofs.Fold.{iter-zero, iter-turn}
+use Rattle.rewriting.specs.declared.sides.Side.the-variants.{Rows, Columns}
 use Rattle.rewriting.specs.Shift.{pairShifted}
 use Rattle.rewriting.proofs.Runs.{room-more}
-use Rattle.rewriting.proofs.Shape.{Moved, none, moved-as, moved-shape, shapely-kept, same-rows, same-columns}
+use Rattle.rewriting.proofs.Shape.{Moved, none, moved-as, moved-shape, shapely-kept, same-lines}
 use Rattle.rewriting.proofs.Rooms.{Small, moved-room, pairs-shifted, start-within}
 use Rattle.rewriting.proofs.shift.shift_pairs.Statement.{statement}
 use Rattle.rewriting.proofs.shift.shift_pairs.Tie as tie
@@ -33,7 +34,8 @@ chain : (l : tie.At-loop Inv-loop μ-loop) → Moved Small (l .before .before .b
 chain l =
     let s = l .before .before .before in
     moved-as (l .loop .inv .3)
-    (pairs-shifted (s .pre .0) (s .args .moves .now) (λ f d n t x i. s .pre .3 .small i) (movesBefore (s .args .b .now)) (l .loop .k) 0 (s .args .b .now) (omega (arith, l .before .pairs .ensures)) none)
+    (pairs-shifted (s .pre .0) (s .args .moves .now) (λ r x i. s .pre .3 .small i)
+    (movesBefore (s .args .b .now)) (l .loop .k) 0 (s .args .b .now) (omega (arith, l .before .pairs .ensures)) none)
 
 shift-pair-requires : tie.Need-shift-pair-requires Inv-loop μ-loop
 shift-pair-requires c κs =
@@ -47,8 +49,8 @@ shift-pair-requires c κs =
       omega (
         arith,
         start-within (s .args .b .now) (l .loop .k) (pairs (s .args .b .now)) g,
-        same-rows e h (l .loop .k) (omega (arith, h .pairs)),
-        same-columns e h (l .loop .k) (omega (arith, h .pairs)),
+        same-lines e h (l .loop .k) (omega (arith, h .pairs)) Rows,
+        same-lines e h (l .loop .k) (omega (arith, h .pairs)) Columns,
       ),
     )
 
@@ -73,8 +75,8 @@ loop-again c =
         arith,
         r .shift-pair .ensures .0,
         sum-more (l .loop .k) (λ k. size (a .b .now) (first (a .b .now) k) + size (a .b .now) (second (a .b .now) k)),
-        same-rows e h (l .loop .k) g,
-        same-columns e h (l .loop .k) g,
+        same-lines e h (l .loop .k) g Rows,
+        same-lines e h (l .loop .k) g Columns,
       ),
       iter-turn (λ k. pairShifted (a .moves .now) (movesBefore (a .b .now) k) k) (a .b .now) (l .loop .inv .3)
           (rw (l .loop .inv .2) at (r .shift-pair .ensures .1)),
