@@ -17,8 +17,8 @@ use Rattle.operations.specs.Fold.{iter, least}
 use Rattle.operations.specs.Add.{added}
 use Rattle.operations.specs.Load.{loadedBlock}
 use Rattle.rewriting.specs.Moves.{moveRun}
-use Rattle.rewriting.specs.Shift.{pairShifted, shifted}
-use Rattle.rewriting.specs.Tighten.{runLeast, runTightened, pairTightened, tightened}
+use Rattle.shift.specs.Shift.{pairShifted, shifted}
+use Rattle.tighten.specs.Tighten.{runLeast, runTightened, pairTightened, tightened}
 use Rattle.certificates.specs.Certify.{trainBalanced, rowBalanced, columnBalanced, pairBalanced, balanced, overChoices, overPairs, weighted}
 use Rattle.frames.specs.Digits.{digit, digitOf, byteAt}
 use Rattle.frames.specs.Fields.{field, signed, fieldDigits}

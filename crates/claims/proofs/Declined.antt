@@ -3,7 +3,7 @@ use mathlib.Core.Path.{_≡_, refl}
 use mathlib.Core.Bool.{Bool, true, false, cond}
 use mathlib.Core.List.{List, []}
 use mathlib.Core.Logic.{_⊎_, inl, inr}
-use Prim.Native.Nat.{ℕ, _-_, _<_}
+use Prim.Native.Nat.{ℕ, _<_}
 use native.Mathlib.Omega.{arith}
 use lib.Dec.{ltb}
 use lib.IntN.{ℤ}
@@ -15,8 +15,8 @@ use Rattle.operations.specs.declared.outcome.Outcome.{Outcome}
 use Rattle.operations.specs.declared.outcome.Outcome.the-variants.{Done, CostAbove as cost-above, PartsOutside as parts-outside}
 use Rattle.operations.specs.Add.{addOutcome, addBlock}
 use Rattle.operations.specs.Load.{loadedBlock}
-use Rattle.rewriting.specs.Shift.{shiftOutcome, shiftBlock}
-use Rattle.rewriting.specs.Tighten.{tightenOutcome, tightenBlock}
+use Rattle.shift.specs.Shift.{shiftOutcome, shiftBlock}
+use Rattle.tighten.specs.Tighten.{tightenOutcome, tightenBlock}
 use Rattle.certificates.specs.declared.certify.Certificate.{Certificate}
 use Rattle.certificates.specs.declared.certify.Certificate.the-variants.{Unbalanced, Balanced}
 use Rattle.certificates.specs.Certify.{weightsOf, certificate}

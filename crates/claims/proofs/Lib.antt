@@ -1,5 +1,6 @@
 -- The laws of the crate: one file for each idea.
 pub mod Cases
+pub mod Rewritten
 pub mod ReadBack
 pub mod Declined
 pub mod Lines

@@ -21,9 +21,10 @@ use Rattle.operations.specs.declared.outcome.Outcome.the-variants.{Done, CostAb
 use Rattle.operations.specs.Add.{added, addOutcome, addBlock}
 use Rattle.operations.specs.Load.{loadedBlock}
 use Rattle.operations.proofs.Added.{add-done, add-study, add-within, add-same-shape, add-choice, add-choice-kept, add-entry-kept, cost-above as above-cost}
-use Rattle.rewriting.specs.Shift.{shifted}
-use Rattle.rewriting.specs.Tighten.{tightened}
-use Rattle.rewriting.proofs.Ends.{shift-same-shape, shift-loaded, shift-keeps-total, tighten-same-shape, tighten-loaded, tighten-keeps-total, tighten-within}
+use Rattle.shift.specs.Shift.{shifted}
+use Rattle.shift.proofs.Ends.{shift-same-shape, shift-loaded, shift-keeps-total}
+use Rattle.tighten.specs.Tighten.{tightened}
+use Rattle.tighten.proofs.Ends.{tighten-same-shape, tighten-loaded, tighten-keeps-total, tighten-within}
 use Rattle.certificates.specs.declared.certify.Certificate.{Certificate}
 use Rattle.certificates.specs.declared.certify.Certificate.the-variants.{Unbalanced, Balanced}
 use Rattle.certificates.specs.Certify.{weightsOf, certificate}

@@ -1,7 +1,7 @@
 -- What is known of a load once its fields were judged fine: which fields are there, and where the line ends.
 use mathlib.Core.Path.{_≡_}
 use mathlib.Core.List.{List}
-use Prim.Native.Nat.{ℕ, _-_, _<_}
+use Prim.Native.Nat.{ℕ, _<_}
 use Rattle.frames.specs.Digits.{bytes}
 use Rattle.lines.specs.declared.request.Verdict.the-variants.{Fine}
 use Rattle.lines.specs.Layout.{pairAt, loadPairs}

@@ -1,6 +1,6 @@
 -- Laws of turns over a range.
 use mathlib.Core.Path.{_≡_, refl, sym, ap, _∙_}
-use mathlib.Core.Logic.{_⊎_, ⊎-elim, dite}
+use mathlib.Core.Logic.{⊎-elim, dite}
 use Prim.Native.Nat.{ℕ, zero, suc, _+_, _<_, _≤_, min}
 use native.Mathlib.Decide.{decLt}
 use native.Mathlib.Nat.{eq-or-lt-of-le}

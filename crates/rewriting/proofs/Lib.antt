@@ -2,9 +2,6 @@
 pub mod Words
 pub mod Runs
 pub mod Shape
-pub mod Rooms
-pub mod Falls
 pub mod Totals
 pub mod Reach
-pub mod Ends
-pub mod Examples
+pub mod Judged

@@ -20,8 +20,7 @@ use Rattle.tables.proofs.Study.{SameShape, study-from, trains-range, size-range
 use Rattle.tables.proofs.Plans.{same-shape-total, constant-at-most-total, choice-at-most-total, pair-at-most-total}
 use Rattle.rewriting.specs.declared.sides.Run.{Run}
 use Rattle.rewriting.specs.declared.sides.Side.the-variants.{Rows, Columns}
-use Rattle.rewriting.specs.Moves.{Shapely, moveRun}
-use Rattle.rewriting.specs.Tighten.{Filled}
+use Rattle.rewriting.specs.Moves.{Shapely, moveRun, Filled}
 use Rattle.rewriting.proofs.Runs.{move-other}
 use Rattle.rewriting.proofs.Shape.{study-shapely, Project, line, unary, Asked, Moved, none, move}
 

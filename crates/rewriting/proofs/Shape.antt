@@ -20,8 +20,7 @@ use Rattle.operations.proofs.Fold.{iter-ind}
 use Rattle.rewriting.specs.declared.sides.Run.{Run}
 use Rattle.rewriting.specs.declared.sides.Side.{Side}
 use Rattle.rewriting.specs.declared.sides.Side.the-variants.{Rows, Columns}
-use Rattle.rewriting.specs.Moves.{Room, Shapely, RunIn, runPlace, moveRun, lineTrain, lineRun, choicesRun, project, projectUnary}
-use Rattle.rewriting.specs.Tighten.{Natural, Filled}
+use Rattle.rewriting.specs.Moves.{Room, Shapely, RunIn, runPlace, moveRun, lineTrain, lineRun, choicesRun, project, projectUnary, Natural, Filled}
 use Rattle.rewriting.proofs.Runs.{Missed, move-length, move-other}
 
 -- ---- a study
@@ -223,6 +222,10 @@ move-shape r α b f =
 abbrev pub Asked : Type 1
 Asked = Run → List ℤ → ℤ → Type 0
 
+-- any number may go
+abbrev pub Any : Asked
+Any r c α = Unit {0}
+
 -- c comes from b by at most n moves
 pub data Moved (R : Asked) (b : List ℤ) : ℕ → List ℤ → Type 0 where
   none : {n : ℕ} → Moved R b n b
@@ -276,6 +279,10 @@ module _ {R : Asked} {b : List ℤ} (s : Shapely b) where
   pairs-moved f t m n c l w =
       iter-ind (λ i x. Moved R b (n + 16 * i) x) m f c (rw (mul-zero, add-zero) w)
       (λ i x q v. let e : n + 16 * (i + 1) ≡ n + 16 * i + 16 = omega arith in rw e (t i (n + 16 * i) x (omega arith) v))
+
+-- the most moves that an operation makes
+abbrev pub allMoves : ℕ
+allMoves = maxTrains + 16 * maxPairs
 
 -- one chain after another
 pub moved-then : {R : Asked} {b c : List ℤ} {m : ℕ} → Shapely b → Moved R b m c → {n : ℕ} {d : List ℤ} → Moved R c n d → Moved R b (m + n) d

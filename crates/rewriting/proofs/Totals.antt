@@ -2,7 +2,7 @@
 use mathlib.Core.Path.{_≡_, refl, sym, ap, ap₂, _∙_}
 use mathlib.Core.List.{List}
 use mathlib.Core.Logic.{_⊎_, inl, inr, ⊎-elim, _≢_}
-use Prim.Native.Nat.{ℕ, zero, suc, _+_, _<_, _≤_}
+use Prim.Native.Nat.{ℕ, zero, suc, _<_, _≤_}
 use native.Mathlib.Decide.{ℕ-discrete}
 use native.Mathlib.Omega.{arith}
 use lib.IntN.{ℤ, pos, negℤ, _+ℤ_, +ℤ-assoc, +ℤ-comm, +ℤ-idr, +ℤ-idl, +ℤ-invr}
@@ -15,8 +15,7 @@ use Rattle.tables.proofs.Range.{below-suc}
 use Rattle.tables.proofs.Plans.{same-shape-total}
 use Rattle.rewriting.specs.declared.sides.Run.{Run}
 use Rattle.rewriting.specs.declared.sides.Side.the-variants.{Rows, Columns}
-use Rattle.rewriting.specs.Moves.{Shapely, moveRun, lineRun, choicesRun}
-use Rattle.rewriting.specs.Tighten.{Filled}
+use Rattle.rewriting.specs.Moves.{Shapely, moveRun, lineRun, choicesRun, Filled}
 use Rattle.rewriting.proofs.Runs.{Met, Missed, move-to, move-met, move-other}
 use Rattle.rewriting.proofs.Shape.{study-figure, study-shapely, study-filled, Project, line, unary, lines-most, Fair, project-fair, fair-run, Asked, Moved, none, move, moved-shape}
 

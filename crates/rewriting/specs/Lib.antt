@@ -1,4 +1,2 @@
 pub mod Outcome
 pub mod Moves
-pub mod Shift
-pub mod Tighten

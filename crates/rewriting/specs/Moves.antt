@@ -2,10 +2,10 @@
 use mathlib.Core.Path.{_≡_}
 use mathlib.Core.List.{List}
 use Prim.Native.Nat.{ℕ, _+_, _*_, _<_, _≤_}
-use lib.IntN.{ℤ, negℤ, _+ℤ_}
+use lib.IntN.{ℤ, negℤ, _+ℤ_, pos}
 use lib.ListN.{length, set}
 use lib.Signed.{mag}
-use Rattle.tables.specs.Block.{blockLength, maxTrains, maxChoices, maxPairs, constantPlace, heldChoicePlace, heldEntryPlace, at, trains, pairs, size, first, second}
+use Rattle.tables.specs.Block.{blockLength, maxTrains, maxChoices, maxPairs, constantPlace, heldChoicePlace, heldEntryPlace, at, trains, pairs, size, first, second, maxParts, heldEntriesFrom, figure}
 use Rattle.operations.specs.Fold.{iter}
 use Rattle.rewriting.specs.declared.sides.Run.{Run}
 use Rattle.rewriting.specs.declared.sides.Side.{Side}
@@ -23,6 +23,17 @@ pub record Shapely (b : List ℤ) : Type 0 where
   pub sizes : (i : ℕ) → i < maxTrains → size b i ≤ maxChoices
   pub firsts : (k : ℕ) → k < maxPairs → first b k < maxTrains
   pub seconds : (k : ℕ) → k < maxPairs → second b k < maxTrains
+
+-- no number of the block is below 0, and no entry of a pair above L: so it stays while a study is tightened
+pub record Natural (b : List ℤ) : Type 0 where
+  pub natural : (p : ℕ) → at b p ≡ pos (figure b p)
+  pub entries : (p : ℕ) → heldEntriesFrom ≤ p → figure b p ≤ maxParts
+
+-- each train has a choice, and each pair two trains that are there
+pub record Filled (b : List ℤ) : Type 0 where
+  pub sizes : (i : ℕ) → i < trains b → 1 ≤ size b i
+  pub firsts : (k : ℕ) → k < pairs b → first b k < trains b
+  pub seconds : (k : ℕ) → k < pairs b → second b k < trains b
 
 -- z is added at place p
 abbrev pub addAt : ℕ → ℤ → List ℤ → List ℤ

@@ -1,6 +1,4 @@
-// The operations that rewrite the tables of a study and keep every plan's total, each on a lent block: a declined one leaves it as it was.
-mod moves;
-mod outcome;
-pub mod shift;
-mod sides;
-pub mod tighten;
+// The moves that rewrite the held costs and keep every plan's total, and how the end of an operation is judged.
+pub mod moves;
+pub mod outcome;
+pub mod sides;

@@ -1,7 +1,7 @@
 -- What an answer does not depend on, and what leaves the block: a buffer that is large enough decides nothing, lines over the limit are answered alike, certificates leave the block.
 use mathlib.Core.Path.{_≡_, refl}
 use mathlib.Core.List.{List}
-use Prim.Native.Nat.{ℕ, _-_, _<_, _≤_}
+use Prim.Native.Nat.{ℕ, _<_, _≤_}
 use lib.IntN.{ℤ}
 use lib.ListN.{length}
 use borrow.Author.Tests.{lt-ltb, le-ltb}

@@ -14,8 +14,8 @@ use Rattle.operations.specs.declared.outcome.Outcome.the-variants.{Done, CostAb
 use Rattle.operations.specs.Add.{addOutcome, addBlock}
 use Rattle.operations.specs.Load.{loadedBlock}
 use Rattle.rewriting.specs.Outcome.{judged, judgedBlock}
-use Rattle.rewriting.specs.Tighten.{tightenOutcome, tightenBlock}
-use Rattle.rewriting.specs.Shift.{shifted, shiftOutcome, shiftBlock}
+use Rattle.shift.specs.Shift.{shifted, shiftOutcome, shiftBlock}
+use Rattle.tighten.specs.Tighten.{tightenOutcome, tightenBlock}
 use Rattle.certificates.specs.declared.certify.Certificate.{Certificate}
 use Rattle.certificates.specs.Certify.{weightsOf, certificate}
 use Rattle.frames.specs.Runs.{runOf, signedRunOf}

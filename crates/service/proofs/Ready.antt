@@ -23,7 +23,7 @@ use Rattle.tables.proofs.Range.{both-true}
 use Rattle.tables.proofs.Study.{study-of, trains-range}
 use Rattle.operations.specs.Load.{loadedBlock}
 use Rattle.operations.proofs.Loaded.{load-study}
-use Rattle.rewriting.specs.Shift.{SmallMoves}
+use Rattle.shift.specs.Shift.{SmallMoves}
 use Rattle.certificates.specs.Certify.{WeightsFor}
 use Rattle.frames.specs.Digits.{bytes}
 use Rattle.frames.specs.Fields.{field, signedField}

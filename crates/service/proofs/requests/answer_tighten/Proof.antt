@@ -1,8 +1,8 @@
 -- A study stays one, so its bound can be written; a declined tightening leaves the block.
 use borrow.Author.Needs.{needs}
 use native.Mathlib.Omega.{arith}
-use Rattle.rewriting.specs.Tighten.{tightened, tightenOutcome, tightenBlock}
-use Rattle.rewriting.proofs.Ends.{tighten-study}
+use Rattle.tighten.specs.Tighten.{tightened, tightenOutcome, tightenBlock}
+use Rattle.tighten.proofs.Ends.{tighten-study}
 use Rattle.service.proofs.Outcomes.{operated-answers, judged-declined}
 use Rattle.service.proofs.requests.answer_tighten.Statement.{statement}
 use Rattle.service.proofs.requests.answer_tighten.Tie as tie

@@ -2,7 +2,7 @@
 use borrow.Author.Needs.{needs}
 use mathlib.Core.Path.{_∙_}
 use native.Mathlib.Omega.{arith}
-use Rattle.rewriting.proofs.Ends.{shift-study}
+use Rattle.shift.proofs.Ends.{shift-study}
 use Rattle.frames.proofs.Lists.{list-length}
 use Rattle.service.proofs.Ready.{shift-ready}
 use Rattle.service.proofs.Outcomes.{shift-answers}

@@ -1,0 +1,95 @@
+-- Where a tightening ends, for the crates above: the shape and the loaded costs stay, and so does the total of every plan; the constant only grows.
+use mathlib.Core.Path.{_≡_, refl, _∙_}
+use mathlib.Core.Bool.{true}
+use mathlib.Core.List.{List}
+use Prim.Native.Nat.{ℕ, _+_, _*_, _<_, _≤_}
+use native.Mathlib.Omega.{arith}
+use lib.IntN.{ℤ, pos}
+use Rattle.tables.specs.Block.{maxParts, heldChoicesFrom, heldEntriesFrom, at, figure, trains, pairs, constant}
+use Rattle.tables.specs.Plans.{IsPlan, shapeOf, heldTotal}
+use Rattle.tables.specs.WellFormed.{holdsStudy, Study}
+use Rattle.tables.proofs.Study.{study-holds, SameShape, same-trains, same-size}
+use Rattle.operations.specs.Fold.{iter}
+use Rattle.rewriting.specs.Moves.{Shapely}
+use Rattle.rewriting.proofs.Shape.{study-shapely, study-filled, study-natural, study-room, shapely-kept, filled-kept, Moved, none, moved-shape, moved-map, moved-more, moved-then, allMoves, Any}
+use Rattle.rewriting.proofs.Totals.{moved-keeps-total}
+use Rattle.rewriting.proofs.Reach.{moved-unmet, Loaded, loaded-unmet, reach-study}
+use Rattle.rewriting.proofs.Judged.{judged-cases}
+use Rattle.tighten.specs.Tighten.{trainTightened, pairsTightened, tightened, tightenBlock}
+use Rattle.tighten.proofs.Falls.{Falling, falling-room, falling-natural, falling-pairs, falling-trains, Tight, moved-falling, moved-raises, Zero, zero-as, trains-zero, pairs-tightened, trains-tightened}
+
+module _ {b : List ℤ} (s : Study b) where
+  pairs-chain : Moved (Tight heldEntriesFrom) b (0 + 16 * pairs b) (pairsTightened b)
+  pairs-chain = pairs-tightened (study-shapely s) (pairs b) 0 b (omega arith) none
+
+  abbrev pairs-falling : Falling heldEntriesFrom maxParts (maxParts + (0 + 16 * pairs b) * maxParts) (pairsTightened b)
+  pairs-falling = moved-falling (study-shapely s) (falling-pairs (study-natural s) (study-room s)) pairs-chain
+
+  between : Shapely (pairsTightened b)
+  between = shapely-kept (moved-shape (study-shapely s) pairs-chain) (study-shapely s)
+
+  trains-chain : (m : ℕ) → m ≤ trains (pairsTightened b) → Moved (Tight heldChoicesFrom) (pairsTightened b) (0 + m) (iter m trainTightened (pairsTightened b))
+  trains-chain m h = trains-tightened between m 0 (pairsTightened b) h none
+
+  tighten-chain : Moved Any b allMoves (tightened b)
+  unfolding tightened
+  tighten-chain =
+      moved-more (omega (arith, study-shapely s .pairs, between .trains))
+      (moved-then (study-shapely s) (moved-map (λ run c α r. tt) pairs-chain) (moved-map (λ run c α r. tt) (trains-chain (trains (pairsTightened b)) (omega arith))))
+
+  -- the most that a number is after the pairs
+  abbrev pairs-most : ℕ
+  pairs-most = maxParts + (0 + 16 * pairs b) * maxParts
+
+  start-falling : Falling heldChoicesFrom pairs-most pairs-most (pairsTightened b)
+  start-falling = falling-trains (falling-natural pairs-falling) (falling-room pairs-falling)
+
+  trains-falling : (m : ℕ) → m ≤ trains (pairsTightened b)
+      → Falling heldChoicesFrom pairs-most (pairs-most + (0 + m) * pairs-most) (iter m trainTightened (pairsTightened b))
+  trains-falling m h = moved-falling between start-falling (trains-chain m h)
+
+  pub tighten-same-shape : SameShape b (tightened b)
+  tighten-same-shape = moved-shape (study-shapely s) tighten-chain
+
+  pub tighten-loaded : (p : ℕ) → Loaded p → at (tightened b) p ≡ at b p
+  tighten-loaded p l = moved-unmet (study-filled s) (loaded-unmet (study-shapely s) l) tighten-chain
+
+  -- no number falls below 0
+  pub tighten-natural : (p : ℕ) → at (tightened b) p ≡ pos (figure (tightened b) p)
+  unfolding tightened
+  tighten-natural = trains-falling (trains (pairsTightened b)) (omega arith) .natural
+
+  pub tighten-keeps-total : (x : ℕ → ℕ) → IsPlan (shapeOf b) x → heldTotal (tightened b) x ≡ heldTotal b x
+  tighten-keeps-total = moved-keeps-total s tighten-chain tighten-natural
+
+  pub tighten-raises-constant : constant b ≤ constant (tightened b)
+  unfolding tightened
+  tighten-raises-constant =
+      omega (
+        arith,
+        moved-raises {source = heldEntriesFrom} (omega arith) (study-shapely s) (falling-pairs (study-natural s) (study-room s)) pairs-chain,
+        moved-raises {source = heldChoicesFrom} (omega arith) between start-falling (trains-chain (trains (pairsTightened b)) (omega arith)),
+      )
+
+  -- declined or not
+  pub tighten-study : Study (tightenBlock b)
+  tighten-study = judged-cases Study b (tightened b) (tighten-same-shape .whole ∙ s .whole) s (λ t. t)
+
+  pub tighten-block-keeps-total : (x : ℕ → ℕ) → IsPlan (shapeOf b) x → heldTotal (tightenBlock b) x ≡ heldTotal b x
+  tighten-block-keeps-total x p =
+      judged-cases (λ c. heldTotal c x ≡ heldTotal b x) b (tightened b) (tighten-same-shape .whole ∙ s .whole) refl (λ t. tighten-keeps-total x p)
+
+  -- each train has a choice that costs nothing
+  pub tighten-leaves-zero : (i : ℕ) → i < trains b → Zero b (tightened b) i
+  unfolding tightened
+  tighten-leaves-zero i h =
+      let e = moved-shape (study-shapely s) pairs-chain in
+      zero-as (same-size e i (omega (arith, study-shapely s .trains)))
+      (trains-zero between (filled-kept e (study-shapely s) (study-filled s)) start-falling (trains (pairsTightened b)) (omega arith) i (omega (arith, same-trains e)))
+
+  -- where no plan's total is above L, nothing is declined
+  pub tighten-within : ((x : ℕ → ℕ) → IsPlan (shapeOf b) x → heldTotal b x ≤ maxParts) → holdsStudy (tightened b) ≡ true
+  tighten-within low =
+      study-holds
+      (reach-study s (tightened b) tighten-same-shape tighten-natural (λ p u. moved-unmet (study-filled s) u tighten-chain)
+      (λ x p. rw (tighten-keeps-total x p) (low x p)))

@@ -1,0 +1,261 @@
+-- A tightening is a chain of moves too, and none of its numbers falls below 0: what goes is the least of the run it comes from.
+use mathlib.Core.Path.{_≡_, refl, sym, ap, _∙_}
+use mathlib.Core.List.{List}
+use mathlib.Core.Logic.{⊎-elim, dite, _≢_}
+use Prim.Native.Nat.{ℕ, zero, suc, _+_, _*_, _-_, _<_, _≤_}
+use native.Mathlib.Decide.{ℕ-discrete}
+use native.Mathlib.Nat.{add-zero, sub-zero, suc-mul, mul-le-mul-right}
+use native.Mathlib.Omega.{arith}
+use lib.IntN.{ℤ, pos, negsuc, negℤ, _+ℤ_}
+use lib.ListN.{length}
+use lib.Signed.{mag}
+use borrow.Author.Tests.{le-ltb}
+use Rattle.tables.specs.Block.{blockLength, maxTrains, maxPairs, maxParts, heldChoicesFrom, heldEntriesFrom, heldChoicePlace, constantPlace, at, nat, figure, trains, pairs, size, first, heldChoice}
+use Rattle.tables.proofs.Study.{SameShape, same-figure, same-trains, same-size, figure-at}
+use Rattle.operations.specs.Fold.{iter}
+use Rattle.operations.proofs.Fold.{iter-ind, least-le, least-is}
+use Rattle.rewriting.specs.declared.sides.Run.{Run}
+use Rattle.rewriting.specs.declared.sides.Side.{Side}
+use Rattle.rewriting.specs.declared.sides.Side.the-variants.{Rows, Columns}
+use Rattle.rewriting.specs.Moves.{Room, Shapely, runPlace, moveRun, lineTrain, lineRun, choicesRun, Natural, Filled}
+use Rattle.rewriting.proofs.Runs.{Met, Missed, meet, move-to, move-met, move-other}
+use Rattle.rewriting.proofs.Shape.{shapely-kept, filled-kept, unary, same-line, same-lines, line-train, lines-most, nat-room, Fair, project-fair, fair-run, Moved, none, move, moved-as, moved-shape, moved-more, moved-unary, lines-moved, trains-moved, pairs-moved}
+use Rattle.tighten.specs.Tighten.{runLeast, runTightened, lineTightened, linesTightened, trainTightened, pairTightened, pairsTightened, trainsTightened, tightened}
+
+less : (a l : ℕ) → l ≤ a → pos a +ℤ negℤ (pos l) ≡ pos (a - l)
+less a zero h = rw (add-zero, sub-zero)
+less a (suc l) h = rw (le-ltb a (suc l) h)
+
+-- the least of a run is at most each of its numbers
+pub run-least-le : (r : Run) (p : ℕ) (c : List ℤ) → Met r p → runLeast r c ≤ figure c p
+unfolding runLeast
+run-least-le r p c m = omega (arith, least-le (r .count - 1) (m .turn) (λ i. figure c (runPlace r i)) (omega (arith, m .below)), ap (figure c) (m .is))
+
+pub record Attained (r : Run) (c : List ℤ) : Type 0 where
+  pub turn : ℕ
+  pub below : turn < r .count
+  pub is : runLeast r c ≡ figure c (runPlace r turn)
+
+pub run-least-first : (r : Run) (c : List ℤ) → runLeast r c ≤ figure c (runPlace r 0)
+unfolding runLeast
+run-least-first r c = least-le (r .count - 1) 0 (λ i. figure c (runPlace r i)) (omega arith)
+
+-- and one of them
+pub run-least-met : (r : Run) (c : List ℤ) → 0 < r .count → Attained r c
+unfolding runLeast
+run-least-met r c h =
+    let m = least-is (r .count - 1) (λ i. figure c (runPlace r i)) in
+    record { turn = m .which; below = omega (arith, m .below); is = m .is }
+
+nat-mag : (z : ℤ) → nat z ≤ mag z
+nat-mag (pos n) = omega arith
+nat-mag (negsuc n) = omega arith
+
+pub run-least-room : (r : Run) (c : List ℤ) (h : ℕ) → Room c h → runLeast r c ≤ h
+unfolding figure
+run-least-room r c h o = omega (arith, run-least-first r c, nat-mag (at c (runPlace r 0)), o .room (runPlace r 0))
+
+-- ---- what one tightening leaves at each place
+
+module _ {r : Run} (f : Fair r) (c : List ℤ) (len : length c ≡ blockLength) (natural : (p : ℕ) → at c p ≡ pos (figure c p)) where
+  pub tight-met : (p : ℕ) → Met r p → at (runTightened r c) p ≡ pos (figure c p - runLeast r c)
+  unfolding runTightened
+  tight-met p m =
+      let l = runLeast r c in
+      move-met r (pos l) c (fair-run c len f) (f .missed) p m ∙ ap (λ (z : ℤ). z +ℤ negℤ (pos l)) (natural p) ∙ less (figure c p) l (run-least-le r p c m)
+
+  pub tight-to : at (runTightened r c) (r .to) ≡ pos (figure c (r .to) + runLeast r c)
+  unfolding runTightened
+  tight-to = let l = runLeast r c in move-to r (pos l) c (fair-run c len f) (f .missed) (r .to) refl ∙ ap (λ (z : ℤ). z +ℤ pos l) (natural (r .to))
+
+  pub tight-other : (p : ℕ) → p ≢ r .to → Missed r p → at (runTightened r c) p ≡ at c p
+  unfolding runTightened
+  tight-other p n m = move-other r (pos (runLeast r c)) c p n m
+
+  -- the three cases of a place
+  pub tight-cases : (P : ℤ → Type 0) (p : ℕ)
+      → (Met r p → P (pos (figure c p - runLeast r c)))
+      → (p ≡ r .to → P (pos (figure c (r .to) + runLeast r c)))
+      → P (pos (figure c p))
+      → P (at (runTightened r c) p)
+  tight-cases P p x y z = ⊎-elim (λ (m : Met r p). rw (tight-met p m) (x m)) (λ (m : Missed r p). by m (ℕ-discrete p (r .to))) (meet r p)
+    where
+      by : Missed r p → Dec (p ≡ r .to) → P (at (runTightened r c) p)
+      by m (yes e) = rw (e, tight-to) (y e)
+      by m (no n) = rw (tight-other p n m, natural p) z
+
+-- ---- while a block is tightened
+
+-- what is taken comes from places from `source` on, where no number is above `high`, and none anywhere is above `room`
+pub record Falling (source high room : ℕ) (c : List ℤ) : Type 0 where
+  pub natural : (p : ℕ) → at c p ≡ pos (figure c p)
+  pub sources : (p : ℕ) → source ≤ p → figure c p ≤ high
+  pub most : (p : ℕ) → figure c p ≤ room
+
+pub falling-room : {source high room : ℕ} {c : List ℤ} → Falling source high room c → Room c room
+falling-room {c = c} f = record { room = λ p. omega (arith, nat-room (at c p) (figure c p) (f .natural p), f .most p) }
+
+pub falling-natural : {room : ℕ} {c : List ℤ} → Falling heldEntriesFrom maxParts room c → Natural c
+falling-natural f = record { natural = f .natural; entries = f .sources }
+
+module _ {b : List ℤ} (n : Natural b) {h : ℕ} (o : Room b h) where
+  figure-room : (p : ℕ) → figure b p ≤ h
+  figure-room p = omega (arith, nat-room (at b p) (figure b p) (n .natural p), o .room p)
+
+  -- where it begins: at the pairs, and then at the trains
+  pub falling-pairs : Falling heldEntriesFrom maxParts h b
+  falling-pairs = record { natural = n .natural; sources = n .entries; most = figure-room }
+
+  pub falling-trains : Falling heldChoicesFrom h h b
+  falling-trains = record { natural = n .natural; sources = λ p l. figure-room p; most = figure-room }
+
+pub falling-step : {source high room : ℕ} {r : Run} {c : List ℤ} → Fair r → length c ≡ blockLength → source ≤ r .from → r .to < source
+    → Falling source high room c → Falling source high (room + high) (runTightened r c)
+unfolding figure
+falling-step {source} {high} {room} {r} {c} f len below above o =
+    let l = runLeast r c in
+    let g : l ≤ high = omega (arith, run-least-first r c, o .sources (runPlace r 0) (omega arith)) in
+    record {
+      natural = λ p. tight-cases f c len (o .natural) (λ z. z ≡ pos (nat z)) p (λ m. refl) (λ e. refl) refl;
+      sources = λ p h. tight-cases f c len (o .natural) (λ z. nat z ≤ high) p (λ m. omega (arith, o .sources p h)) (λ e. absurd (omega arith)) (o .sources p h);
+      most = λ p. tight-cases f c len (o .natural) (λ z. nat z ≤ room + high) p
+          (λ m. omega (arith, o .most p)) (λ e. omega (arith, o .most (r .to))) (omega (arith, o .most p));
+    }
+
+falling-more : {source high room more : ℕ} {c : List ℤ} → room ≤ more → Falling source high room c → Falling source high more c
+falling-more h f = record { natural = f .natural; sources = f .sources; most = λ p. omega (arith, f .most p) }
+
+-- the moves of a tightening
+pub record Tight (source : ℕ) (r : Run) (c : List ℤ) (α : ℤ) : Type 0 where
+  pub is : α ≡ pos (runLeast r c)
+  pub below : source ≤ r .from
+  pub above : r .to < source
+
+pub tight-is : (r : Run) (c : List ℤ) → moveRun r (pos (runLeast r c)) c ≡ runTightened r c
+unfolding runTightened
+tight-is r c = refl
+
+pub moved-falling : {source high room : ℕ} {b : List ℤ} → Shapely b → Falling source high room b → {n : ℕ} {c : List ℤ} → Moved (Tight source) b n c
+    → Falling source high (room + n * high) c
+moved-falling {source} {high} {room} s o {n} none = falling-more (omega arith) o
+moved-falling {source} {high} {room} s o {n} (move {m} {run = run} {c} α l p r w) =
+    let e : length c ≡ blockLength = moved-shape s w .whole ∙ s .whole in
+    rw (r .is, tight-is run c)
+    (falling-more (omega (arith, suc-mul m high, mul-le-mul-right high l)) (falling-step (project-fair s p) e (r .below) (r .above) (moved-falling s o w)))
+
+-- the constant only grows: no run holds it
+pub moved-raises : {source high room : ℕ} {b : List ℤ} → heldChoicesFrom ≤ source → Shapely b → Falling source high room b
+    → {n : ℕ} {c : List ℤ} → Moved (Tight source) b n c → figure b constantPlace ≤ figure c constantPlace
+unfolding figure
+moved-raises h s o none = omega arith
+moved-raises {b = b} h s o (move {run = run} {c} α l p r w) =
+    let e : length c ≡ blockLength = moved-shape s w .whole ∙ s .whole in
+    let g = moved-raises h s o w in
+    rw (r .is, tight-is run c)
+    (tight-cases (project-fair s p) c e (moved-falling s o w .natural) (λ z. figure b constantPlace ≤ nat z) constantPlace
+    (λ m. absurd (omega (arith, r .below, m .is))) (λ q. rw (← q) (omega arith)) g)
+
+-- ---- the folds of a tightening
+
+module _ {b : List ℤ} (s : Shapely b) where
+  -- a line goes from entries to a choice
+  line-bounds : (side : Side) (k x : ℕ) → k < pairs b → x < size b (lineTrain side b k)
+      → (heldEntriesFrom ≤ lineRun side b k x .from) × (lineRun side b k x .to < heldEntriesFrom)
+  line-bounds Rows k x h q = (omega arith, omega (arith, line-train s Rows k h, lines-most s Rows k h))
+  line-bounds Columns k x h q = (omega arith, omega (arith, line-train s Columns k h, lines-most s Columns k h))
+
+  pub lines-tightened : (side : Side) (k m n : ℕ) (c : List ℤ) → k < pairs b → m ≤ size b (lineTrain side b k) → Moved (Tight heldEntriesFrom) b n c
+      → Moved (Tight heldEntriesFrom) b (n + m) (iter m (lineTightened side k) c)
+  unfolding runTightened
+  lines-tightened side k m n c h l w =
+      lines-moved s (λ x y. pos (runLeast (lineRun side y k x) y)) side k h
+      (λ x y e q. let d = line-bounds side k x h q in record { is = rw (same-line e s k (omega (arith, s .pairs)) side x); below = d .0; above = d .1 })
+      m n c l w
+
+  pub trains-tightened : (m n : ℕ) (c : List ℤ) → m ≤ trains b → Moved (Tight heldChoicesFrom) b n c
+      → Moved (Tight heldChoicesFrom) b (n + m) (iter m trainTightened c)
+  unfolding runTightened
+  trains-tightened m n c l w =
+      trains-moved s (λ i x. pos (runLeast (choicesRun x i) x))
+      (λ i x e q. record { is = rw (same-size e i (omega (arith, s .trains))); below = omega arith; above = omega arith })
+      m n c l w
+
+  pub pair-tightened : (k n : ℕ) (c : List ℤ) → k < pairs b → Moved (Tight heldEntriesFrom) b n c → Moved (Tight heldEntriesFrom) b (n + 16) (pairTightened k c)
+  unfolding pairTightened
+  pair-tightened k n c h w =
+      let g : k < maxPairs = omega (arith, s .pairs) in
+      let e = same-lines (moved-shape s w) s k g Rows in
+      let v = lines-tightened Rows k (size c (first c k)) n c h (omega arith) w in
+      let f = same-lines (moved-shape s v) s k g Columns in
+      moved-more (omega (arith, lines-most s Rows k h, lines-most s Columns k h))
+      (lines-tightened Columns k _ (n + size c (first c k)) (linesTightened Rows k c) h (omega arith) v)
+
+  pub pairs-tightened : (m n : ℕ) (c : List ℤ) → m ≤ pairs b → Moved (Tight heldEntriesFrom) b n c
+      → Moved (Tight heldEntriesFrom) b (n + 16 * m) (iter m pairTightened c)
+  pairs-tightened m n c l w = pairs-moved s pairTightened pair-tightened m n c l w
+
+-- ---- what the trains are left with
+
+-- a choice of train i, as many as b says, that costs nothing in c
+pub record Zero (b c : List ℤ) (i : ℕ) : Type 0 where
+  pub which : ℕ
+  pub below : which < size b i
+  pub is : heldChoice c i which ≡ 0
+
+pub zero-as : {b d c : List ℤ} {i : ℕ} → size d i ≡ size b i → Zero d c i → Zero b c i
+zero-as e z = record { which = z .which; below = rw e at (z .below); is = z .is }
+
+-- the train whose turn it is gets one, and the others keep theirs
+train-zero : {c : List ℤ} → Shapely c → Filled c → ((p : ℕ) → at c p ≡ pos (figure c p)) → (i : ℕ) → i < trains c
+    → Zero c (trainTightened i c) i × ((j : ℕ) → j < trains c → j ≢ i → Zero c c j → Zero c (trainTightened i c) j)
+train-zero {c} s o natural i h =
+    let f = project-fair s (unary i h) in
+    let d = s .sizes i (omega (arith, s .trains)) in
+    let m = run-least-met (choicesRun c i) c (o .sizes i h) in
+    let p : heldChoicePlace i (m .turn) ≡ heldChoicePlace i 0 + 1 * m .turn = omega arith in
+    let v = tight-met f c (s .whole) natural (heldChoicePlace i (m .turn)) (record { turn = m .turn; below = m .below; is = p }) in
+    let u = figure-at (trainTightened i c) (heldChoicePlace i (m .turn)) (figure c (heldChoicePlace i (m .turn)) - runLeast (choicesRun c i) c) v in (
+      record { which = m .turn; below = m .below; is = omega (arith, u, m .is, ap (figure c) p) },
+      λ j g n z. let q = s .sizes j (omega (arith, s .trains)) in record {
+        which = z .which;
+        below = z .below;
+        is = omega (
+          arith,
+          z .is,
+          same-figure c (trainTightened i c) (heldChoicePlace j (z .which))
+              (tight-other f c (s .whole) natural (heldChoicePlace j (z .which)) (λ e. omega arith) (λ t l e. n (omega (arith, z .below)))),
+        );
+      },
+    )
+
+pub trains-zero : {b : List ℤ} {high room : ℕ} → Shapely b → Filled b → Falling heldChoicesFrom high room b
+    → (m : ℕ) → m ≤ trains b → (i : ℕ) → i < m → Zero b (iter m trainTightened b) i
+trains-zero {b} s o f m h = iter-ind So m trainTightened b (none, λ i l. absurd (omega arith)) turn .1
+  where
+    So : ℕ → List ℤ → Type 0
+    So n x = Moved (Tight heldChoicesFrom) b n x × ((i : ℕ) → i < n → Zero b x i)
+
+    turn : (n : ℕ) (x : List ℤ) → n < m → So n x → So (n + 1) (trainTightened n x)
+    turn n x l (w, z) =
+        let e = moved-shape s w in
+        let c : n < maxTrains = omega (arith, s .trains) in
+        let t = train-zero (shapely-kept e s) (filled-kept e s o) (moved-falling s f w .natural) n (omega (arith, same-trains e)) in
+        let r : Tight heldChoicesFrom (choicesRun b n) x (pos (runLeast (choicesRun x n) x)) =
+        record { is = rw (same-size e n c); below = omega arith; above = omega arith } in
+        (moved-as (sym (tight-is _ x)) (moved-unary s w (n + 1) n _ (omega arith) (omega arith) r), zeros e c t)
+      where
+        zeros : SameShape b x → n < maxTrains
+            → Zero x (trainTightened n x) n × ((j : ℕ) → j < trains x → j ≢ n → Zero x x j → Zero x (trainTightened n x) j)
+            → (i : ℕ) → i < n + 1 → Zero b (trainTightened n x) i
+        zeros e c t i q =
+            dite (ℕ-discrete i n) (λ (r : i ≡ n). rw r (zero-as (same-size e n c) (t .0)))
+            (λ r. let d = same-size e i (omega arith) in zero-as d (t .1 i (omega (arith, same-trains e)) r (zero-as (sym d) (z i (omega arith)))))
+
+-- a pair, and the whole, by their calls
+pub pair-tight-by : (k : ℕ) (b : List ℤ) {c d : List ℤ} → c ≡ linesTightened Rows k b → d ≡ linesTightened Columns k c → d ≡ pairTightened k b
+unfolding pairTightened
+pair-tight-by k b p q = q ∙ rw p
+
+pub tightened-by : (b : List ℤ) {t p d : List ℤ} → t ≡ b → p ≡ pairsTightened t → d ≡ trainsTightened p → d ≡ tightened b
+unfolding tightened
+tightened-by b e f g = g ∙ rw (f, e)

@@ -1,0 +1,3 @@
+-- The laws of the crate: one file for each idea.
+pub mod Falls
+pub mod Ends

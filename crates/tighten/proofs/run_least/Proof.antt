@@ -1,0 +1,88 @@
+-- The least so far is that of the first numbers of the run, and each turn takes in one more.
+use borrow.Author.Needs.{needs}
+use mathlib.Core.Path.{_≡_, sym, ap, _∙_}
+use Prim.Native.Nat.{_+_, _-_, _<_}
+use native.Mathlib.Nat.{mul-zero, add-zero}
+use native.Mathlib.Omega.{arith}
+use Rattle.tables.specs.Block.{figure}
+use Rattle.operations.specs.Fold.{least as leastOf}
+use Rattle.operations.proofs.Fold.{least-zero, least-more}
+use Rattle.rewriting.specs.declared.sides.Run.{Run}
+use Rattle.rewriting.specs.Moves.{runPlace}
+use Rattle.tighten.specs.Tighten.{runLeast}
+use Rattle.tighten.proofs.run_least.Statement.{statement}
+use Rattle.tighten.proofs.run_least.Tie as tie
+
+abbrev Inv-loop : tie.InvT-loop
+Inv-loop b run least₀ i₀ least i = (i < run .count) × (least ≡ leastOf i (λ j. figure b (runPlace run j)))
+
+abbrev μ-loop : tie.MeasureT-loop
+μ-loop b run least₀ i₀ least i = run .count - i
+
+first : (r : Run) → runPlace r 0 ≡ r .from
+first r = rw (mul-zero, add-zero)
+
+get-requires : tie.Need-get-requires Inv-loop μ-loop
+get-requires c κs = let e : 0 < _ = c .pre .1 in omega (arith, first (c .args .run), c .pre .0 .inside 0 e)
+
+loop-holds : tie.Need-loop-holds Inv-loop μ-loop
+loop-holds c = let a = c .before .args in (omega arith, c .get .ensures ∙ sym (least-zero _ ∙ ap (figure (a .b .now)) (first (a .run))))
+
+add-if1 : tie.Need-add-if1 Inv-loop μ-loop
+add-if1 c = search needs
+
+add-i : tie.Need-add-i Inv-loop μ-loop
+add-i c = search needs
+
+mul-get : tie.Need-mul-get Inv-loop μ-loop
+mul-get c = let l = c .before .before .before in record { fits = omega (arith, l .before .before .pre .0 .inside (l .loop .i + 1) (omega arith)) }
+
+add-get : tie.Need-add-get Inv-loop μ-loop
+add-get c = let l = c .before .before .before .before in record { fits = omega (arith, l .before .before .pre .0 .inside (l .loop .i + 1) (omega arith)) }
+
+get-requires-2 : tie.Need-get-requires-2 Inv-loop μ-loop
+get-requires-2 c κs = let l = c .before .before .before .before in omega (arith, l .before .before .pre .0 .inside (l .loop .i + 1) (omega arith))
+
+loop-less : tie.Need-loop-less Inv-loop μ-loop
+loop-less c = search needs
+
+loop-again : tie.Need-loop-again Inv-loop μ-loop
+loop-again c =
+    let l = c .before .before .before .before .before .before in
+    let a = l .before .before .args in
+    (omega arith, omega (arith, least-more (l .loop .i) (λ j. figure (a .b .now) (runPlace (a .run) j)), c .before .get2 .ensures))
+
+loop-less-2 : tie.Need-loop-less-2 Inv-loop μ-loop
+loop-less-2 c = search needs
+
+loop-again-2 : tie.Need-loop-again-2 Inv-loop μ-loop
+loop-again-2 c =
+    let l = c .before .before .before .before .before .before in
+    let a = l .before .before .args in
+    (omega arith, omega (arith, least-more (l .loop .i) (λ j. figure (a .b .now) (runPlace (a .run) j)), c .before .get2 .ensures))
+
+returns : tie.Need-returns Inv-loop μ-loop
+unfolding runLeast
+returns c =
+    let l = c .before .before in
+    let e : l .before .before .args .run .count - 1 ≡ l .loop .i = omega arith in
+    rw e (l .loop .inv .1)
+
+pub run-least-spec : {M : Type 1} → statement M
+run-least-spec =
+    tie.close
+    (tie.spec
+    Inv-loop
+    μ-loop
+    get-requires
+    loop-holds
+    add-if1
+    add-i
+    mul-get
+    add-get
+    get-requires-2
+    loop-less
+    loop-again
+    loop-less-2
+    loop-again-2
+    returns)

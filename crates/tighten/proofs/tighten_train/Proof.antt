@@ -1,0 +1,23 @@
+-- The run is the choices of the train: its places are in the block, and there is one at least.
+use borrow.Author.Needs.{needs}
+use Rattle.rewriting.proofs.Shape.{unary, project-run}
+use Rattle.tighten.proofs.tighten_train.Statement.{statement}
+use Rattle.tighten.proofs.tighten_train.Tie as tie
+
+choices-requires : tie.Need-choices-requires
+choices-requires c κs = search needs
+
+tighten-run-requires : tie.Need-tighten-run-requires
+tighten-run-requires c κs =
+    let s = c .before .before .before in
+    let i = s .args .i in
+    rw (c .choices .ensures) (project-run (s .pre .0) (unary i (s .pre .3)), s .pre .1 .sizes i (s .pre .3), s .pre .2)
+
+same-length : tie.Need-same-length
+same-length c = search needs
+
+returns : tie.Need-returns
+returns c = rw (c .before .before .choices .ensures) at (c .before .tighten-run .ensures)
+
+pub tighten-train-spec : {M : Type 1} → statement M
+tighten-train-spec = tie.close (tie.spec choices-requires tighten-run-requires same-length returns)

@@ -1,0 +1,53 @@
+-- Document 01, '04 tighten'.
+use mathlib.Core.List.{List}
+use Prim.Native.Nat.{ℕ, _-_}
+use lib.IntN.{ℤ, pos}
+use Rattle.tables.specs.Block.{figure, trains, pairs, size}
+use Rattle.operations.specs.declared.outcome.Outcome.{Outcome}
+use Rattle.operations.specs.Fold.{iter, least}
+use Rattle.rewriting.specs.declared.sides.Run.{Run}
+use Rattle.rewriting.specs.declared.sides.Side.{Side}
+use Rattle.rewriting.specs.declared.sides.Side.the-variants.{Rows, Columns}
+use Rattle.rewriting.specs.Outcome.{judged, judgedBlock}
+use Rattle.rewriting.specs.Moves.{runPlace, moveRun, lineTrain, lineRun, choicesRun}
+
+-- the least figure of a run
+unfoldable pub runLeast : Run → List ℤ → ℕ
+runLeast r b = least (r .count - 1) (λ i. figure b (runPlace r i))
+
+-- the least of a run goes from each of its places to where its costs go
+unfoldable pub runTightened : Run → List ℤ → List ℤ
+runTightened r b = moveRun r (pos (runLeast r b)) b
+
+-- 'by train, the least c_i(a) is taken off every choice and added to c0'
+abbrev pub trainTightened : ℕ → List ℤ → List ℤ
+trainTightened i b = runTightened (choicesRun b i) b
+
+-- the least of line x of pair k goes to choice x of the side's train
+abbrev pub lineTightened : Side → ℕ → ℕ → List ℤ → List ℤ
+lineTightened side k x b = runTightened (lineRun side b k x) b
+
+abbrev pub linesTightened : Side → ℕ → List ℤ → List ℤ
+linesTightened side k b = iter (size b (lineTrain side b k)) (lineTightened side k) b
+
+-- 'for each a ascending, the least c_ij(a,b) over b moves from that row to c_i(a). Then for each b ascending the least over a moves to c_j(b)'
+unfoldable pub pairTightened : ℕ → List ℤ → List ℤ
+pairTightened k b = linesTightened Columns k (linesTightened Rows k b)
+
+-- 'For each pair in order'
+abbrev pub pairsTightened : List ℤ → List ℤ
+pairsTightened b = iter (pairs b) pairTightened b
+
+-- 'After all pairs, by train'
+abbrev pub trainsTightened : List ℤ → List ℤ
+trainsTightened b = iter (trains b) trainTightened b
+
+-- where a tightening ends
+unfoldable pub tightened : List ℤ → List ℤ
+tightened b = trainsTightened (pairsTightened b)
+
+abbrev pub tightenOutcome : List ℤ → Outcome
+tightenOutcome b = judged (tightened b)
+
+abbrev pub tightenBlock : List ℤ → List ℤ
+tightenBlock b = judgedBlock b (tightened b)
