@@ -19,14 +19,11 @@ runLeast r b = least (r .count - 1) (λ i. figure b (runPlace r i))
 unfoldable pub runTightened : Run → List ℤ → List ℤ
 runTightened r b = moveRun r (pos (runLeast r b)) b
 
--- 'by train, the least c_i(a) is taken off every choice and added to c0'
-abbrev pub trainTightened : ℕ → List ℤ → List ℤ
-trainTightened i b = runTightened (choicesRun b i) b
-
 -- the least of line x of pair k goes to choice x of the side's train
 abbrev pub lineTightened : Side → ℕ → ℕ → List ℤ → List ℤ
 lineTightened side k x b = runTightened (lineRun side b k x) b
 
+-- each line of a side, ascending
 abbrev pub linesTightened : Side → ℕ → List ℤ → List ℤ
 linesTightened side k b = iter (size b (lineTrain side b k)) (lineTightened side k) b
 
@@ -37,6 +34,10 @@ pairTightened k b = linesTightened Columns k (linesTightened Rows k b)
 -- 'For each pair in order'
 abbrev pub pairsTightened : List ℤ → List ℤ
 pairsTightened b = iter (pairs b) pairTightened b
+
+-- 'by train, the least c_i(a) is taken off every choice and added to c0'
+abbrev pub trainTightened : ℕ → List ℤ → List ℤ
+trainTightened i b = runTightened (choicesRun b i) b
 
 -- 'After all pairs, by train'
 abbrev pub trainsTightened : List ℤ → List ℤ
