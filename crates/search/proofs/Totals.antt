@@ -18,7 +18,8 @@ use Rattle.tables.specs.Plans.{choiceTotal, pairTotal, total, shapeOf, heldCost
 use Rattle.tables.proofs.Sum.{sum-none, sum-more, sum-cong, sum-most, sum-add, sum-swap, sum-pick}
 use Rattle.tables.proofs.Limits.{Within, limits-held-choices, limits-held-entries}
 use Rattle.tables.proofs.Study.{study-place, trains-range, pairs-range, constant-range, size-range, first-below-second, second-below-trains}
-use Rattle.search.specs.Walk.{choicesOf, pairAdded, added, partialTotal, Decided, noChoices}
+use Rattle.search.specs.Walk.{choicesOf, pairAdded, added, partialTotal, noChoices}
+use Rattle.search.specs.Held.{Decided}
 use Rattle.search.proofs.Written.{written, kept}
 
 -- the most that a choice adds: its own cost, and one of each pair
@@ -41,7 +42,7 @@ module _ {b : List ℤ} (s : Study b) where
   -- ---- what a choice adds
 
   -- pairs come before their second train
-  added-cong : (x y : ℕ → ℕ) (t a : ℕ) → ((i : ℕ) → i < t → x i ≡ y i) → added b x t a ≡ added b y t a
+  pub added-cong : (x y : ℕ → ℕ) (t a : ℕ) → ((i : ℕ) → i < t → x i ≡ y i) → added b x t a ≡ added b y t a
   unfolding added
   added-cong x y t a h = omega (arith, sum-cong (pairs b) (pairAdded b x t a) (pairAdded b y t a) at-pair)
     where
@@ -65,10 +66,10 @@ module _ {b : List ℤ} (s : Study b) where
   most true p h e = let w : Within (from-to 0 maxParts) b p = rw e at (study-place s p h) in w .high
   most false p h e = let w : Within (from-to 0 0) b p = rw e at (study-place s p h) in omega (arith, w .high)
 
-  choice-most : (t a : ℕ) → t < trains b → a < maxChoices → heldChoice b t a ≤ maxParts
+  pub choice-most : (t a : ℕ) → t < trains b → a < maxChoices → heldChoice b t a ≤ maxParts
   choice-most t a h q = most (choiceUsed b (maxChoices * t + a)) (heldChoicePlace t a) (omega (arith, trains-range s)) (limits-held-choices b (maxChoices * t + a) (omega (arith, trains-range s)))
 
-  entry-most : (k c a : ℕ) → k < pairs b → c < maxChoices → a < maxChoices → heldEntry b k c a ≤ maxParts
+  pub entry-most : (k c a : ℕ) → k < pairs b → c < maxChoices → a < maxChoices → heldEntry b k c a ≤ maxParts
   entry-most k c a h p q = most (entryUsed b (entriesOfPair * k + (maxChoices * c + a))) (heldEntryPlace k c a) (omega (arith, pairs-range s)) (limits-held-entries b (entriesOfPair * k + (maxChoices * c + a)))
 
   module _ (x : ℕ → ℕ) (t a : ℕ) (p : t < trains b) (q : a < maxChoices) (below : (i : ℕ) → i < t → x i < size b i) where

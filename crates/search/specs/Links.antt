@@ -1,24 +1,41 @@
--- The index of a search: which pairs a train completes, without looking at the others.
+-- Rows of sums: a row of eight for each train, with its choices' own costs, and one for each pair, with what its second train's choices come to so far.
 use mathlib.Core.Path.{_≡_}
 use mathlib.Core.List.{List}
-use Prim.Native.Nat.{ℕ, _+_, _<_, _≤_}
+use mathlib.Core.Logic.{_⊎_}
+use Prim.Native.Nat.{ℕ, _+_, _*_, _<_, _≤_}
 use lib.IntN.{ℤ}
-use lib.ListN.{length, getD}
-use Rattle.tables.specs.Block.{maxTrains, maxPairs, trains, pairs, second}
+use Rattle.tables.specs.Block.{maxTrains, maxChoices, maxPairs, pairs, first, second}
 
--- l is the first pair from k on whose second train is t, and m where there is none
-pub record Link (b : List ℤ) (t k l : ℕ) : Type 0 where
-  pub from : k ≤ l
+-- where a train's own row begins, and behind all of these a pair's
+abbrev pub ownRow : ℕ → ℕ
+ownRow j = maxChoices * j
+
+abbrev pub pairRow : ℕ → ℕ
+pairRow k = ownRow maxTrains + maxChoices * k
+
+-- how many sums there are
+abbrev pub sumsLength : ℕ
+sumsLength = pairRow maxPairs
+
+-- train j completes no pair below k, and p is its own row
+pub record Own (b : List ℤ) (j k p : ℕ) : Type 0 where
+  pub place : p ≡ ownRow j
+  pub none : (i : ℕ) → i < k → second b i ≡ j → ⊥
+
+-- or p is the row of the last pair below k that it completes
+pub record Row (b : List ℤ) (j k p : ℕ) : Type 0 where
+  pub pair : ℕ
+  pub place : p ≡ pairRow pair
+  pub low : pair < k
+  pub here : second b pair ≡ j
+  pub skipped : (i : ℕ) → pair < i → i < k → second b i ≡ j → ⊥
+
+-- the row in which train j is summed over the pairs below k
+abbrev pub Back : List ℤ → ℕ → ℕ → ℕ → Type 0
+Back b j k p = Own b j k p ⊎ Row b j k p
+
+-- l is the first pair whose first train is t or later, or m
+pub record Begin (b : List ℤ) (t l : ℕ) : Type 0 where
   pub high : l ≤ pairs b
-  pub skipped : (i : ℕ) → k ≤ i → i < l → second b i ≡ t → ⊥
-  pub here : l < pairs b → second b l ≡ t
-
--- each train's first pair
-pub record Heads (b : List ℤ) (heads : List ℕ) : Type 0 where
-  pub whole : length heads ≡ maxTrains
-  pub links : (t : ℕ) → t < trains b → Link b t 0 (getD heads t 0)
-
--- each pair's next one with the same second train
-pub record Nexts (b : List ℤ) (nexts : List ℕ) : Type 0 where
-  pub whole : length nexts ≡ maxPairs
-  pub links : (k : ℕ) → k < pairs b → Link b (second b k) (k + 1) (getD nexts k 0)
+  pub before : (k : ℕ) → k < l → first b k < t
+  pub after : (k : ℕ) → l ≤ k → k < pairs b → t ≤ first b k

@@ -1,16 +1,14 @@
 -- Document 01, '06 search': the walk over plans.
-use mathlib.Core.Path.{_≡_}
 use mathlib.Core.Bool.{Bool, true, false, cond, _&&_}
 use mathlib.Core.List.{List}
-use Prim.Native.Nat.{ℕ, zero, suc, _+_, _*_, _-_, _≤_, _<_}
+use Prim.Native.Nat.{ℕ, zero, suc, _+_, _*_}
 use lib.Dec.{leb, eqb}
 use lib.IntN.{ℤ}
-use lib.ListN.{length, getD, set, replicate}
+use lib.ListN.{getD, set, replicate}
 use Rattle.units.specs.Units.{theParts}
 use Rattle.tables.specs.Sum.{sum}
-use Rattle.tables.specs.Block.{maxTrains, maxChoices, trains, pairs, constant, size, first, second, heldChoice, heldEntry}
-use Rattle.tables.specs.Ranges.{maxBudget}
-use Rattle.search.specs.declared.steps.Walk.{Walk}
+use Rattle.tables.specs.Block.{maxTrains, trains, pairs, constant, size, first, second, heldChoice, heldEntry}
+use Rattle.search.specs.declared.walk.Walk.{Walk}
 
 -- ---- totals
 
@@ -29,12 +27,6 @@ added b x t a = heldChoice b t a + sum (pairs b) (pairAdded b x t a)
 -- 'The partial total is c0 plus the costs in T among trains decided', the first t trains
 unfoldable pub partialTotal : List ℤ → (ℕ → ℕ) → ℕ → ℕ
 partialTotal b x t = constant b + sum t (λ i. added b x i (x i))
-
--- the first t trains are decided: each has one of its choices, and the partial total is theirs
-pub record Decided (b : List ℤ) (t partial : ℕ) (chosen : List ℕ) : Type 0 where
-  pub whole : length chosen ≡ maxTrains
-  pub below : (i : ℕ) → i < t → getD chosen i 0 < size b i
-  pub total : partial ≡ partialTotal b (choicesOf chosen) t
 
 -- ---- one try
 
@@ -113,40 +105,3 @@ triesFrom b left t = sum left (λ i. product (size b) t (i + 1))
 
 abbrev pub allTries : List ℤ → ℕ
 allTries b = triesFrom b (trains b) 0
-
--- ---- the walk in the terms of the code
-
--- what choice a of train t comes to
-abbrev pub comesTo : List ℤ → ℕ → ℕ → List ℕ → ℕ → ℕ
-comesTo b t partial chosen a = partial + added b (choicesOf chosen) t a
-
--- the try of choice a at train t, which comes to `total`
-unfoldable pub tryOf : List ℤ → ℕ → ℕ → ℕ → List ℕ → ℕ → Walk → Walk
-tryOf b budget t total chosen a = oneTry budget total (openedTrain b budget (trains b - (t + 1)) (t + 1) total (set chosen t a))
-
-abbrev pub choiceOf : List ℤ → ℕ → ℕ → ℕ → List ℕ → ℕ → Walk → Walk
-choiceOf b budget t partial chosen a = tryOf b budget t (comesTo b t partial chosen a) chosen a
-
--- the tries of a train's choices from a on
-abbrev pub choicesFrom : List ℤ → ℕ → ℕ → ℕ → ℕ → List ℕ → Walk → Walk
-choicesFrom b budget t a partial chosen = triedFrom (choiceOf b budget t partial chosen) (size b t - a) a
-
--- a number for each choice of a train, also for those past its last
-pub record Sums (f : ℕ → ℕ) (l : List ℕ) : Type 0 where
-  pub whole : length l ≡ maxChoices
-  pub each : (a : ℕ) → a < maxChoices → getD l a 0 ≡ f a
-
--- where the walk stands: train t is opened
-pub record At (b : List ℤ) (budget t partial : ℕ) (chosen : List ℕ) (w : Walk) : Type 0 where
-  pub within : budget ≤ maxBudget
-  pub train : t < trains b
-  pub decided : Decided b t partial chosen
-  pub count : w .count ≤ budget
-
--- or its choice a is tried: with it, train t is decided too
-pub record Trying (b : List ℤ) (budget t a total : ℕ) (chosen : List ℕ) (w : Walk) : Type 0 where
-  pub within : budget ≤ maxBudget
-  pub train : t < trains b
-  pub choice : a < size b t
-  pub decided : Decided b (t + 1) total (set chosen t a)
-  pub count : w .count ≤ budget

@@ -6,11 +6,12 @@ ghost use Rattle.tables.specs.WellFormed.{Study};
 ghost use Rattle.tables.specs.Ranges.{maxBudget};
 ghost use Rattle.search.specs.Walk.{searched};
 ghost use Rattle.search.specs.Answer.{searchAnswer};
-use crate::links;
-use crate::steps;
-use crate::steps::Walk;
+use crate::sums;
+use crate::table;
 use crate::walk;
+use crate::walk::Walk;
 use tables::block;
+use tables::block::Block;
 use units::Parts;
 use units::Points;
 use units::Scale;
@@ -22,7 +23,7 @@ pub struct Found {
     pub known: bool,
     pub total: Parts,
     pub cost: Points,
-    pub plan: [u8; 24],
+    pub plan: [u8; Block::TRAINS],
 }
 
 // A total in points, rounded up.
@@ -33,25 +34,29 @@ fn cost_of(s: Scale, total: Parts) -> Points
     s.bound(total)
 }
 
-// The walk from nothing tried, with its index.
+// The walk from nothing tried, over the study's table.
 fn walked(b: &[i64], budget: u64) -> Walk
     requires { ⌜ (Study (now b)) × (budget ≤ maxBudget) ⌝ }
     ensures { λ r. ⌜ r ≡ searched (now (b .entry)) budget ⌝ }
 {
-    let mut heads = [0usize; 24];
-    let mut nexts = [0usize; 48];
-    links::fill_heads(b, &mut heads);
-    links::fill_nexts(b, &mut nexts);
-    walk::open_train(
-        b,
-        &heads,
-        &nexts,
-        budget,
+    let mut table = [0u64; table::LENGTH];
+    table::lay(b, &mut table);
+    let mut sums = [0u64; sums::LENGTH];
+    table::lay_own(b, &mut sums);
+    let mut chosen = [0u8; Block::TRAINS];
+    let mut plan = [0u8; Block::TRAINS];
+    let mut best = Walk::UNKNOWN;
+    let left = walk::open_train(
+        &table,
+        &mut sums,
+        &mut chosen,
+        &mut plan,
+        &mut best,
         0,
         block::constant(b),
-        [0u8; 24],
-        steps::start(),
-    )
+        budget + 1,
+    );
+    Walk::held(budget, left, best, plan)
 }
 
 // The best plan that the budget lets the walk find.

@@ -1,6 +1,6 @@
 // The walk over plans: the best plan of a study that a budget of tries lets it find.
 pub mod answer;
-mod costs;
 mod links;
-pub mod steps;
-mod walk;
+mod sums;
+mod table;
+pub mod walk;

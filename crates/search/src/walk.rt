@@ -1,72 +1,119 @@
 // Document 01, '06 search': 'Opening a train tries its choices; trying a choice opens the next train.'
+//
+// What a walk has is lent: the choices so far, the best plan, and the total to beat. `left` is handed on: one more than the tries left, and 0 once the walk is spent.
 ghost use mathlib.Core.Path.{_≡_};
-ghost use Rattle.tables.specs.WellFormed.{Study};
-ghost use Rattle.search.specs.Walk.{At, Trying, choicesFrom, tryOf};
-ghost use Rattle.search.specs.Links.{Heads, Nexts};
-use crate::costs;
-use crate::steps;
-use crate::steps::Walk;
-use tables::block;
+ghost use mathlib.Core.Bool.{cond};
+ghost use Prim.Native.Nat.{_+_, _-_, _≤_};
+ghost use lib.Dec.{ltb};
+ghost use Rattle.search.specs.Held.{unknown, walkOf, Opened, Tried, OpenedTo, TriedTo};
+use crate::sums;
+use crate::table;
+use tables::block::Block;
 use units::Parts;
 
-// Opens train t: what its choices come to is summed once, then they are tried, from 0 on.
-pub fn open_train(
-    b: &[i64],
-    heads: &[usize; 24],
-    nexts: &[usize; 48],
-    budget: u64,
-    t: usize,
-    partial: Parts,
-    chosen: [u8; 24],
-    w: Walk,
-) -> Walk
-    requires { ⌜ (Study (now b)) × (Heads (now b) (now heads)) × (Nexts (now b) (now nexts)) ⌝ }
-    requires { ⌜ At (now b) budget t (partial .0) chosen w ⌝ }
-    ensures { λ r. ⌜ r ≡ choicesFrom (now (b .entry)) budget t 0 (partial .0) chosen w ⌝ }
-{
-    let d = block::size(b, t);
-    let sums = costs::sums_of(b, heads, nexts, t, partial, chosen);
-    let mut walk = w;
-    let mut a = 0;
-    while a < d {
-        let sum = sums[a];
-        walk = try_choice(b, heads, nexts, budget, t, a, Parts(sum), chosen, walk);
-        a += 1;
-    }
-    walk
+// What a walk comes to: the tries counted, whether the budget ran out, and the best plan with its total.
+pub struct Walk {
+    pub count: u64,
+    pub spent: bool,
+    pub found: bool,
+    pub best: Parts,
+    pub plan: [u8; Block::TRAINS],
 }
 
-// Tries choice a of train t, which comes to `total`: it opens the next train.
+impl Walk {
+    // The total to beat while no plan is known: above every total, and so far below 2^64 that sums of it and of costs fit.
+    pub const UNKNOWN: u64 = 1 << 50;
+
+    // The tries left.
+    fn tries(left: u64) -> u64
+        ensures { λ r. ⌜ r ≡ left - 1 ⌝ }
+    {
+        if left == 0 {
+            return 0;
+        }
+        left - 1
+    }
+
+    // The best total, 0 while no plan is known.
+    fn total(best: u64) -> u64
+        ensures { λ r. ⌜ r ≡ cond (ltb best unknown) best 0 ⌝ }
+    {
+        if best < Self::UNKNOWN {
+            return best;
+        }
+        0
+    }
+
+    // The walk that `left`, the total to beat and the best plan stand for.
+    pub fn held(budget: u64, left: u64, best: u64, plan: [u8; Block::TRAINS]) -> Walk
+        requires { ⌜ left ≤ budget + 1 ⌝ }
+        ensures { λ r. ⌜ r ≡ walkOf budget left best plan ⌝ }
+    {
+        Walk {
+            count: budget - Self::tries(left),
+            spent: left == 0,
+            found: best < Self::UNKNOWN,
+            best: Parts(Self::total(best)),
+            plan,
+        }
+    }
+}
+
+// Opens train t: what its choices come to is taken from the sums, then they are tried, from 0 on. The result is what is left.
+pub fn open_train(
+    table: &[u64; table::LENGTH],
+    sums: &mut [u64; sums::LENGTH],
+    chosen: &mut [u8; Block::TRAINS],
+    plan: &mut [u8; Block::TRAINS],
+    best: &mut u64,
+    t: usize,
+    partial: Parts,
+    left: u64,
+) -> u64
+    requires { ⌜ Opened (now table) (now sums) t (partial .0) (now chosen) ⌝ }
+    ensures { λ r. ⌜ OpenedTo (now (table .entry)) (now (sums .entry)) t (partial .0) (now (chosen .entry)) left (now (best .entry)) (now (plan .entry)) r (now (best .exit)) (now (plan .exit)) (now (chosen .exit)) (now (sums .exit)) ⌝ }
+{
+    let row = sums::row_from(sums, table[table::ENDS_FROM + t] as usize, partial);
+    let d = table[table::SIZES_FROM + t] as usize;
+    let mut rest = left;
+    let mut a = 0;
+    while a < d {
+        let sum = row[a];
+        rest = try_choice(table, sums, chosen, plan, best, t, a, Parts(sum), rest);
+        a += 1;
+    }
+    rest
+}
+
+// Tries choice a of train t, which comes to `total`: it is carried to the sums, and opens the next train.
 fn try_choice(
-    b: &[i64],
-    heads: &[usize; 24],
-    nexts: &[usize; 48],
-    budget: u64,
+    table: &[u64; table::LENGTH],
+    sums: &mut [u64; sums::LENGTH],
+    chosen: &mut [u8; Block::TRAINS],
+    plan: &mut [u8; Block::TRAINS],
+    best: &mut u64,
     t: usize,
     a: usize,
     total: Parts,
-    chosen: [u8; 24],
-    w: Walk,
-) -> Walk
-    requires { ⌜ (Study (now b)) × (Heads (now b) (now heads)) × (Nexts (now b) (now nexts)) ⌝ }
-    requires { ⌜ Trying (now b) budget t a (total .0) chosen w ⌝ }
-    ensures { λ r. ⌜ r ≡ tryOf (now (b .entry)) budget t (total .0) chosen a w ⌝ }
+    left: u64,
+) -> u64
+    requires { ⌜ Tried (now table) (now sums) t a (total .0) (now chosen) ⌝ }
+    ensures { λ r. ⌜ TriedTo (now (table .entry)) (now (sums .entry)) t a (total .0) (now (chosen .entry)) left (now (best .entry)) (now (plan .entry)) r (now (best .exit)) (now (plan .exit)) (now (chosen .exit)) (now (sums .exit)) ⌝ }
 {
-    if w.spent {
-        return w;
+    if left <= 1 {
+        return 0;
     }
-    if steps::runs_out(w, budget) {
-        return steps::mark_spent(w);
+    let rest = left - 1;
+    if *best <= total.0 {
+        return rest;
     }
-    if steps::drops(w, total) {
-        return steps::count_try(w);
-    }
-    let once = steps::count_try(w);
-    let with = steps::with_choice(chosen, t, a);
+    chosen[t] = a as u8;
     let u = t + 1;
-    if u == block::trains(b) {
-        steps::whole_plan(once, total, with)
-    } else {
-        open_train(b, heads, nexts, budget, u, total, with, once)
+    if u == table[table::TRAINS_PLACE] as usize {
+        *best = total.0;
+        *plan = *chosen;
+        return rest;
     }
+    sums::carry(table, sums, chosen, t);
+    open_train(table, sums, chosen, plan, best, u, total, rest)
 }

@@ -4,7 +4,7 @@ use mathlib.Core.Bool.{Bool, true, false, _&&_}
 use Prim.Native.Nat.{ℕ, _<_, _^_}
 use native.Mathlib.Omega.{arith}
 use borrow.Author.Needs.{sfits-of}
-use borrow.Author.Tests.{ltb-true, eqb-true}
+use borrow.Author.Tests.{ltb-true, le-ltb, eqb-true}
 use lib.Bits.{bitOr, or-add-and, and-le-l, and-le-r}
 use lib.Dec.{T, leb, eqb}
 use lib.IntN.{ℤ, pos, negsuc, natAbs}
@@ -63,6 +63,10 @@ module _ (z : ℤ) (g : mag z < 2 ^ 63) where
   -- and bits that its own are joined to are 0 where they were 0 before, and it is 0
   pub joined-none : (a : ℕ) → eqb (bitOr a (ofZ w64 z)) 0 ≡ eqb a 0 && within (from-to 0 0) z
   joined-none a = or-none a (ofZ w64 z) ∙ ap (λ (t : Bool). eqb a 0 && t) bits-none
+
+  -- what is known to be natural is not below 0
+  pub not-below : z ≡ pos (nat z) → ltZ (toZ w64 (ofZ w64 z)) (pos 0) ≡ false
+  not-below e = rw back (ap (λ (y : ℤ). ltZ y (pos 0)) e ∙ le-ltb (nat z) 0 (omega arith))
 
   module _ (e : ltZ (toZ w64 (ofZ w64 z)) (pos 0) ≡ true) where
     pub negative-nat : nat z ≡ 0

@@ -19,6 +19,15 @@ pub fn get(b: &[i64], p: usize) -> u64
     z as u64
 }
 
+// The number at place p, which is not negative. There is no test, so that a run of places is copied several at a time.
+pub fn natural(b: &[i64], p: usize) -> u64
+    requires { ⌜ (p < length (now b)) × (at (now b) p ≡ pos (figure (now b) p)) ⌝ }
+    ensures { λ r. ⌜ r ≡ figure (now (b .entry)) p ⌝ }
+{
+    let z = b[p];
+    z as u64
+}
+
 // Stores v at place p.
 pub fn put(b: &mut [i64], p: usize, v: u64)
     requires { ⌜ (p < length (now b)) × (v < 2 ^ 63) ⌝ }

@@ -1,228 +1,258 @@
--- Each way of the code is a way of the definition: a try by its tests, the tries of a train one after the other.
+-- Each way of the code is a way of the definition: a try by its tests, the tries of a train one after the other, for every study that has this table.
 -- What falls is 16 for each train left and 1 for each choice left: a train that is opened is left, a choice that is tried is left, and its train no more.
 use borrow.Author.Needs.{needs}
-use mathlib.Core.Path.{_≡_, refl, sym, ap, _∙_}
+use mathlib.Core.Path.{_≡_, refl, sym, _∙_}
+use mathlib.Core.List.{List}
 use Prim.Native.Nat.{ℕ, _+_, _-_, _*_, _<_, _≤_}
 use native.Mathlib.Omega.{arith}
-use borrow.Author.Tests.{eqb-false}
+use lib.IntN.{ℤ}
+use lib.ListN.{getD}
 use borrow.Fn.Kinds.{In}
 use borrow.Fn.PlainCycle.{Measures, is, falls, and}
 use Rattle.tables.specs.Block.{trains, size}
 use Rattle.tables.proofs.Study.{trains-range, size-range}
-use Rattle.tables.proofs.block.size.Reads as size-reads
-use Rattle.tables.proofs.block.trains.Reads as trains-reads
-use Rattle.search.specs.declared.steps.Walk.{Walk}
-use Rattle.search.specs.Walk.{choicesOf, partialTotal, choicesFrom}
-use Rattle.search.proofs.Totals.{decided-next}
-use Rattle.search.proofs.Tries.{choice-keeps, none-left, more-left, tried, try-spent, try-out, try-dropped, try-whole, try-opens}
-use Rattle.search.proofs.Budget.{count-kept}
+use Rattle.search.specs.Table.{sizesFrom, trainsPlace, beginOf}
+use Rattle.search.specs.Held.{walkOf, Alike, Steady, At, comesTo, choicesFrom, Sums}
+use Rattle.search.proofs.Tries.{none-left}
+use Rattle.search.proofs.Alike.{alike-refl, alike-trans, alike-less, alike-set}
+use Rattle.search.proofs.Rows.{begin-next, steady-refl, steady-trans, steady-less}
+use Rattle.search.proofs.Held.{held-out, held-dropped, held-whole, held-opens, trying-low, trying-at, tries-next, at-sums, at-room, at-place, carrying-at}
 use Rattle.search.proofs.walk.open_train.Reads as open-train
 use Rattle.search.proofs.walk.open_train.Kinds as open-train-kinds
 use Rattle.search.proofs.walk.+open_train+try_choice.Lts-open_train as open-train-lts
 use Rattle.search.proofs.walk.try_choice.Reads as try-choice
 use Rattle.search.proofs.walk.try_choice.Kinds as try-choice-kinds
 use Rattle.search.proofs.walk.+open_train+try_choice.Lts-try_choice as try-choice-lts
-use Rattle.search.proofs.costs.sums_of.Reads as sums-of-reads
-use Rattle.search.proofs.steps.count_try.Reads as count-try-reads
-use Rattle.search.proofs.steps.drops.Reads as drops-reads
-use Rattle.search.proofs.steps.mark_spent.Reads as mark-spent-reads
-use Rattle.search.proofs.steps.runs_out.Reads as runs-out-reads
-use Rattle.search.proofs.steps.whole_plan.Reads as whole-plan-reads
-use Rattle.search.proofs.steps.with_choice.Reads as with-choice-reads
+use Rattle.search.proofs.sums.carry.Reads as carry-reads
+use Rattle.search.proofs.sums.row_from.Reads as row-from-reads
 use Rattle.search.proofs.walk.+open_train+try_choice.{statement}
 use Rattle.search.proofs.walk.+open_train+try_choice.Tie.{close}
 
-abbrev μ-open-train : Measures 3 open-train-kinds.ps ℕ
-μ-open-train κs a = 16 * (trains (a .0 .now) - a .1 .1 .1 .1 .0)
+abbrev μ-open-train : Measures 5 open-train-kinds.ps ℕ
+μ-open-train κs a = 16 * (getD (a .0 .now) trainsPlace 0 - a .1 .1 .1 .1 .1 .0)
 
-abbrev μ-try-choice : Measures 3 try-choice-kinds.ps ℕ
-μ-try-choice κs a = 16 * (trains (a .0 .now) - (a .1 .1 .1 .1 .0 + 1)) + (size (a .0 .now) (a .1 .1 .1 .1 .0) - a .1 .1 .1 .1 .1 .0)
+abbrev μ-try-choice : Measures 5 try-choice-kinds.ps ℕ
+μ-try-choice κs a = 16 * (getD (a .0 .now) trainsPlace 0 - (a .1 .1 .1 .1 .1 .0 + 1)) + (getD (a .0 .now) (sizesFrom + a .1 .1 .1 .1 .1 .0) 0 - a .1 .1 .1 .1 .1 .1 .0)
 
-abbrev open-train-at : ℕ → In 3 open-train-kinds.ps
-open-train-at t = and 3 open-train-kinds.ps (is 3 open-train-kinds.ps μ-open-train t) open-train.Pre
+abbrev open-train-at : ℕ → In 5 open-train-kinds.ps
+open-train-at t = and 5 open-train-kinds.ps (is 5 open-train-kinds.ps μ-open-train t) open-train.Pre
 
-abbrev open-train-below : ℕ → In 3 open-train-kinds.ps
-open-train-below t = and 3 open-train-kinds.ps (falls 3 open-train-kinds.ps _<_ μ-open-train t) open-train.Pre
+abbrev open-train-below : ℕ → In 5 open-train-kinds.ps
+open-train-below t = and 5 open-train-kinds.ps (falls 5 open-train-kinds.ps _<_ μ-open-train t) open-train.Pre
 
-abbrev try-choice-at : ℕ → In 3 try-choice-kinds.ps
-try-choice-at t = and 3 try-choice-kinds.ps (is 3 try-choice-kinds.ps μ-try-choice t) try-choice.Pre
+abbrev try-choice-at : ℕ → In 5 try-choice-kinds.ps
+try-choice-at t = and 5 try-choice-kinds.ps (is 5 try-choice-kinds.ps μ-try-choice t) try-choice.Pre
 
-abbrev try-choice-below : ℕ → In 3 try-choice-kinds.ps
-try-choice-below t = and 3 try-choice-kinds.ps (falls 3 try-choice-kinds.ps _<_ μ-try-choice t) try-choice.Pre
+abbrev try-choice-below : ℕ → In 5 try-choice-kinds.ps
+try-choice-below t = and 5 try-choice-kinds.ps (falls 5 try-choice-kinds.ps _<_ μ-try-choice t) try-choice.Pre
 
--- the choices from a on are left, and their tries lead from here to where all of them lead from the start. The partial total is that of the trains decided
+-- the choices from a on are left, and their tries lead from here to where all of them lead from the start
 abbrev open-train-Inv-loop : open-train-lts.InvT-loop
-open-train-Inv-loop b heads nexts budget t chosen d sums walk₀ a₀ walk a =
+open-train-Inv-loop table sums₀ chosen₀ plan₀ best₀ t left row d rest₀ a₀ sums chosen plan best rest a =
     (a ≤ d)
-    × (walk .count ≤ budget)
-    × (choicesFrom b budget t a (partialTotal b (choicesOf chosen) t) chosen walk ≡ choicesFrom b budget t 0 (partialTotal b (choicesOf chosen) t) chosen walk₀)
+    × (rest ≤ rest₀)
+    × Alike t (getD table trainsPlace 0) chosen₀ chosen
+    × Steady (beginOf table t) sums₀ sums
+    × ((b : List ℤ) (budget partial : ℕ) → At b table sums₀ t partial chosen₀ → Sums (comesTo b t partial chosen₀) row → rest₀ ≤ budget + 1
+    → choicesFrom b budget t a partial chosen₀ (walkOf budget rest best plan) ≡ choicesFrom b budget t 0 partial chosen₀ (walkOf budget rest₀ best₀ plan₀))
 
 abbrev open-train-μ-loop : open-train-lts.MeasureT-loop
-open-train-μ-loop b heads nexts budget t chosen d sums walk₀ a₀ walk a = d - a
+open-train-μ-loop table sums₀ chosen₀ plan₀ best₀ t left row d rest₀ a₀ sums chosen plan best rest a = d - a
 
 -- what the two members are handed of their callees
 abbrev open-calls : ℕ → open-train-lts.Claims
-open-calls t = (size-reads.Asked, size-reads.Learnt, sums-of-reads.Asked, sums-of-reads.Learnt, try-choice-below t, try-choice.Post)
+open-calls t = (row-from-reads.Asked, row-from-reads.Learnt, try-choice-below t, try-choice.Post)
 
 abbrev try-calls : ℕ → try-choice-lts.Claims
-try-calls t = (runs-out-reads.Asked, runs-out-reads.Learnt, mark-spent-reads.Asked, mark-spent-reads.Learnt, drops-reads.Asked, drops-reads.Learnt, count-try-reads.Asked, count-try-reads.Learnt, with-choice-reads.Asked, with-choice-reads.Learnt, trains-reads.Asked, trains-reads.Learnt, whole-plan-reads.Asked, whole-plan-reads.Learnt, open-train-below t, open-train.Post)
+try-calls t = (carry-reads.Asked, carry-reads.Learnt, open-train-below t, open-train.Post)
 
 module _ (t : ℕ) where
-  o-size-requires : open-train-lts.Need-size-requires (open-calls t) (open-train-at t) open-train.Post open-train-Inv-loop open-train-μ-loop
-  o-size-requires c κs = (c .pre .1 .0 .0 .whole, omega (arith, c .pre .1 .1 .train, trains-range (c .pre .1 .0 .0)))
+  o-add-row-from : open-train-lts.Need-add-row-from (open-calls t) (open-train-at t) open-train.Post open-train-Inv-loop open-train-μ-loop
+  o-add-row-from c =
+      let p = c .before .pre .1 .at in
+      omega (arith, p .train, trains-range (p .study))
 
-  o-sums-of-requires : open-train-lts.Need-sums-of-requires (open-calls t) (open-train-at t) open-train.Post open-train-Inv-loop open-train-μ-loop
-  o-sums-of-requires c κs = (c .before .pre .1 .0, (c .before .pre .1 .1 .train, c .before .pre .1 .1 .decided))
+  o-mul-row-from : open-train-lts.Need-mul-row-from (open-calls t) (open-train-at t) open-train.Post open-train-Inv-loop open-train-μ-loop
+  o-mul-row-from c =
+      let p = c .before .pre .1 .at in
+      omega (arith, p .train, trains-range (p .study))
+
+  o-element-copy-out-row-from : open-train-lts.Need-element-copy-out-row-from (open-calls t) (open-train-at t) open-train.Post open-train-Inv-loop open-train-μ-loop
+  o-element-copy-out-row-from c =
+      let p = c .before .pre .1 .at in
+      omega (arith, p .train, trains-range (p .study))
+
+  o-row-from-requires : open-train-lts.Need-row-from-requires (open-calls t) (open-train-at t) open-train.Post open-train-Inv-loop open-train-μ-loop
+  o-row-from-requires c κs =
+      let p = c .before .before .pre .1 .at in
+      (at-place p, λ a h. at-room p (steady-refl _ _) a h)
+
+  o-add-d : open-train-lts.Need-add-d (open-calls t) (open-train-at t) open-train.Post open-train-Inv-loop open-train-μ-loop
+  o-add-d c =
+      let p = c .before .before .before .pre .1 .at in
+      omega (arith, p .train, trains-range (p .study))
+
+  o-mul-d : open-train-lts.Need-mul-d (open-calls t) (open-train-at t) open-train.Post open-train-Inv-loop open-train-μ-loop
+  o-mul-d c =
+      let p = c .before .before .before .pre .1 .at in
+      omega (arith, p .train, trains-range (p .study))
+
+  o-element-copy-out-d : open-train-lts.Need-element-copy-out-d (open-calls t) (open-train-at t) open-train.Post open-train-Inv-loop open-train-μ-loop
+  o-element-copy-out-d c =
+      let p = c .before .before .before .pre .1 .at in
+      omega (arith, p .train, trains-range (p .study))
 
   o-loop-holds : open-train-lts.Need-loop-holds (open-calls t) (open-train-at t) open-train.Post open-train-Inv-loop open-train-μ-loop
-  o-loop-holds c = (omega arith, c .before .before .pre .1 .1 .count, refl)
+  o-loop-holds c = (omega arith, omega arith, alike-refl _ _ _, steady-refl _ _, λ b budget partial p f h. refl)
 
   o-mul-sum : open-train-lts.Need-mul-sum (open-calls t) (open-train-at t) open-train.Post open-train-Inv-loop open-train-μ-loop
   o-mul-sum c =
-      let s = c .before .before .before .before in
-      omega (arith, c .before .before .before .size .ensures, size-range (s .pre .1 .0 .0) (s .args .t) (s .pre .1 .1 .train))
+      let s = c .before .before .before .before .before .before in
+      let p = s .pre .1 .at in
+      omega (arith, p .laid .sizes (s .args .t) (p .train), size-range (p .study) (s .args .t) (p .train))
 
   o-array-read-sum : open-train-lts.Need-array-read-sum (open-calls t) (open-train-at t) open-train.Post open-train-Inv-loop open-train-μ-loop
   o-array-read-sum c =
-      let s = c .before .before .before .before in
-      omega (arith, c .before .before .before .size .ensures, size-range (s .pre .1 .0 .0) (s .args .t) (s .pre .1 .1 .train))
+      let s = c .before .before .before .before .before .before in
+      let p = s .pre .1 .at in
+      omega (arith, p .laid .sizes (s .args .t) (p .train), size-range (p .study) (s .args .t) (p .train))
 
   o-try-choice-requires : open-train-lts.Need-try-choice-requires (open-calls t) (open-train-at t) open-train.Post open-train-Inv-loop open-train-μ-loop
   o-try-choice-requires c κs =
-      let l = c .before .loop in
-      let s = c .before .before .before .before in
-      let p = s .pre .1 .1 in
-      let z = size-range (s .pre .1 .0 .0) (s .args .t) (p .train) in
-      let h : l .a < size (s .args .b .now) (s .args .t) = omega (arith, c .before .before .before .size .ensures) in
-      let e = c .before .before .sums-of .ensures .each (l .a) (omega (arith, z)) in (
-        omega (arith, p .train, z),
-        (
-          s .pre .1 .0,
-          record {
-            within = p .within;
-            train = p .train;
-            choice = h;
-            decided = rw e (decided-next (s .pre .1 .0 .0) _ _ _ _ (p .train) h (p .decided));
-            count = l .inv .1;
-          },
-        ),
-      )
+      let l = c .before .before .before .before .before .loop in
+      let s = c .before .before .before .before .before .before .before .before .before .before in
+      let q = s .pre .1 in
+      let p = q .at in
+      let z = size-range (p .study) (s .args .t) (p .train) in
+      let e = p .laid .sizes (s .args .t) (p .train) in
+      let h : l .a < size (q .block) (s .args .t) = omega (arith, e) in
+      let g = at-sums p (c .before .before .before .before .before .before .before .row-from .ensures) .each (l .a) (omega (arith, z)) in
+      (omega (arith, p .train, p .laid .n, z, e), record { block = q .block; at = trying-at p h g (l .inv .2) (l .inv .3) })
 
   o-add-a : open-train-lts.Need-add-a (open-calls t) (open-train-at t) open-train.Post open-train-Inv-loop open-train-μ-loop
-  o-add-a c = search needs
+  o-add-a c =
+      let s = c .before .before .before .before .before .before .before .before .before .before .before in
+      let p = s .pre .1 .at in
+      omega (arith, p .laid .sizes (s .args .t) (p .train), size-range (p .study) (s .args .t) (p .train))
 
   o-loop-less : open-train-lts.Need-loop-less (open-calls t) (open-train-at t) open-train.Post open-train-Inv-loop open-train-μ-loop
   o-loop-less c = search needs
 
   o-loop-again : open-train-lts.Need-loop-again (open-calls t) (open-train-at t) open-train.Post open-train-Inv-loop open-train-μ-loop
   o-loop-again c =
-      let l = c .before .before .loop in
-      let s = c .before .before .before .before .before in
-      let p = s .pre .1 .1 in
-      let h : l .a < size (s .args .b .now) (s .args .t) = omega (arith, c .before .before .before .before .size .ensures) in
-      let e = c .before .before .before .sums-of .ensures .each (l .a) (omega (arith, size-range (s .pre .1 .0 .0) (s .args .t) (p .train))) in
-      let r = tried (s .args .b .now) (s .args .budget) (s .args .t) (l .a) (s .args .chosen) (l .walk) e (p .decided .total) (c .try-choice .ensures) in
-      (omega arith, rw r (choice-keeps (count-kept (s .args .budget)) _ _ (l .a) _ (s .args .chosen) (l .walk) (l .inv .1)), rw r (sym (more-left _ _ _ _ h) ∙ l .inv .2))
+      let l = c .before .before .before .before .before .before .loop in
+      let s = c .before .before .before .before .before .before .before .before .before .before .before in
+      let r = c .try-choice .ensures in (
+        omega arith,
+        omega (arith, r .fewer, l .inv .1),
+        alike-trans (l .inv .2) (r .kept),
+        steady-trans (l .inv .3) (r .steady),
+        λ b budget partial p f m.
+            let h : l .a < size b (s .args .t) = omega (arith, p .laid .sizes (s .args .t) (p .train)) in
+            let g = f .each (l .a) (omega (arith, size-range (p .study) (s .args .t) (p .train))) in
+            tries-next p h g (l .inv .2) (l .inv .3) budget _ (walkOf budget (l .rest) (l .best) (l .plan)) (r .walk b budget (trying-at p h g (l .inv .2) (l .inv .3)) (omega (arith, l .inv .1))) ∙ l .inv .4 b budget partial p f m,
+      )
 
   o-returns : open-train-lts.Need-returns (open-calls t) (open-train-at t) open-train.Post open-train-Inv-loop open-train-μ-loop
   o-returns c =
       let l = c .before .loop in
-      let s = c .before .before .before .before in
-      let e : l .a ≡ size (s .args .b .now) (s .args .t) = omega (arith, c .before .before .before .size .ensures) in
-      sym (none-left _ _ _ _ e) ∙ l .inv .2 ∙ ap (λ (v : ℕ). choicesFrom (s .args .b .now) (s .args .budget) (s .args .t) 0 v (s .args .chosen) (s .args .w)) (sym (s .pre .1 .1 .decided .total))
+      let s = c .before .before .before .before .before .before in
+      record {
+        walk = λ b budget p m.
+            let e : l .a ≡ size b (s .args .t) = omega (arith, p .laid .sizes (s .args .t) (p .train)) in
+            sym (none-left _ _ _ _ e) ∙ l .inv .4 b budget _ p (at-sums p (c .before .before .before .row-from .ensures)) m;
+        fewer = l .inv .1;
+        kept = l .inv .2;
+        steady = l .inv .3;
+      }
 
   t-returns : try-choice-lts.Need-returns (try-calls t) (try-choice-at t) try-choice.Post
   t-returns c =
       let s = c .before in
-      sym (try-spent _ _ _ _ _ _ (s .args .w) (c .if1 .taken))
+      record {
+        walk = λ b budget p m. held-out b budget (s .args .t) (s .args .a) (s .args .total .0) (s .args .left) (s .args .best .now) (s .args .chosen .now) (s .args .plan .now) m (trying-low p) (c .if1 .taken);
+        fewer = omega arith;
+        kept = alike-refl _ _ _;
+        steady = steady-refl _ _;
+      }
 
-  t-runs-out-requires : try-choice-lts.Need-runs-out-requires (try-calls t) (try-choice-at t) try-choice.Post
-  t-runs-out-requires c κs = search needs
-
-  t-mark-spent-requires : try-choice-lts.Need-mark-spent-requires (try-calls t) (try-choice-at t) try-choice.Post
-  t-mark-spent-requires c κs = search needs
+  t-sub-rest : try-choice-lts.Need-sub-rest (try-calls t) (try-choice-at t) try-choice.Post
+  t-sub-rest c = search needs
 
   t-returns-2 : try-choice-lts.Need-returns-2 (try-calls t) (try-choice-at t) try-choice.Post
   t-returns-2 c =
-      let d = c .before .before in
-      let s = d .before .before in
-      c .mark-spent .ensures ∙ sym (try-out _ _ _ _ _ _ (s .args .w) (d .before .if1 .left) (sym (d .runs-out .ensures) ∙ c .before .if2 .taken))
+      let s = c .before .before .before .before in
+      record {
+        walk = λ b budget p m. held-dropped b budget (s .args .t) (s .args .a) (s .args .total .0) (s .args .left) (s .args .best .now) (s .args .chosen .now) (s .args .plan .now) m (trying-low p) (c .before .before .before .if1 .left) (c .if2 .taken);
+        fewer = omega arith;
+        kept = alike-refl _ _ _;
+        steady = steady-refl _ _;
+      }
 
-  t-drops-requires : try-choice-lts.Need-drops-requires (try-calls t) (try-choice-at t) try-choice.Post
-  t-drops-requires c κs = search needs
+  t-cast-chosen : try-choice-lts.Need-cast-chosen (try-calls t) (try-choice-at t) try-choice.Post
+  t-cast-chosen c =
+      let s = c .before .before .before .before in
+      let p = s .pre .1 .at in
+      record { fits = omega (arith, p .choice, size-range (p .study) (s .args .t) (p .train)) }
 
-  t-count-try-requires : try-choice-lts.Need-count-try-requires (try-calls t) (try-choice-at t) try-choice.Post
-  t-count-try-requires c κs =
-      let f = c .before .before in
-      let s = f .before .before .before in
-      omega (arith, s .pre .1 .1 .within, s .pre .1 .1 .count, eqb-false (s .args .w .count) (s .args .budget) (sym (f .before .runs-out .ensures) ∙ f .if2 .left))
+  t-element-write-chosen : try-choice-lts.Need-element-write-chosen (try-calls t) (try-choice-at t) try-choice.Post
+  t-element-write-chosen c =
+      let p = c .before .before .before .before .pre .1 .at in
+      omega (arith, p .train, trains-range (p .study))
+
+  t-add-u : try-choice-lts.Need-add-u (try-calls t) (try-choice-at t) try-choice.Post
+  t-add-u c =
+      let p = c .before .before .before .before .pre .1 .at in
+      omega (arith, p .train, trains-range (p .study))
+
+  t-element-copy-out-if3 : try-choice-lts.Need-element-copy-out-if3 (try-calls t) (try-choice-at t) try-choice.Post
+  t-element-copy-out-if3 c = search needs
 
   t-returns-3 : try-choice-lts.Need-returns-3 (try-calls t) (try-choice-at t) try-choice.Post
   t-returns-3 c =
-      let f = c .before .before .before in
-      let d = f .before in
-      let s = d .before .before in
-      c .count-try .ensures ∙ sym (try-dropped _ _ _ _ _ _ (s .args .w) (d .before .if1 .left) (sym (d .runs-out .ensures) ∙ f .if2 .left) (sym (c .before .before .drops .ensures) ∙ c .before .if3 .taken))
+      let s = c .before .before .before .before .before .before .before in
+      let q = s .pre .1 .at in
+      record {
+        walk = λ b budget p m. held-whole b budget (s .args .t) (s .args .a) (s .args .total .0) (s .args .left) (s .args .best .now) (s .args .chosen .now) (s .args .plan .now) m (trying-low p) (c .before .before .before .before .before .before .if1 .left) (c .before .before .before .if2 .left) (c .before .if3 .taken ∙ p .laid .n);
+        fewer = omega arith;
+        kept = alike-set _ _ _ _ (omega (arith, q .train, q .laid .n));
+        steady = steady-refl _ _;
+      }
 
-  t-count-try-requires-2 : try-choice-lts.Need-count-try-requires-2 (try-calls t) (try-choice-at t) try-choice.Post
-  t-count-try-requires-2 c κs =
-      let f = c .before .before in
-      let s = f .before .before .before in
-      omega (arith, s .pre .1 .1 .within, s .pre .1 .1 .count, eqb-false (s .args .w .count) (s .args .budget) (sym (f .before .runs-out .ensures) ∙ f .if2 .left))
-
-  t-with-choice-requires : try-choice-lts.Need-with-choice-requires (try-calls t) (try-choice-at t) try-choice.Post
-  t-with-choice-requires c κs =
-      let s = c .before .before .before .before .before .before in
-      omega (arith, trains-range (s .pre .1 .0 .0), s .pre .1 .1 .choice, size-range (s .pre .1 .0 .0) (s .args .t) (s .pre .1 .1 .train))
-
-  t-add-u : try-choice-lts.Need-add-u (try-calls t) (try-choice-at t) try-choice.Post
-  t-add-u c = omega (arith, trains-range (c .before .before .before .before .before .before .before .pre .1 .0 .0))
-
-  t-trains-requires : try-choice-lts.Need-trains-requires (try-calls t) (try-choice-at t) try-choice.Post
-  t-trains-requires c κs =
-      c .before .before .before .before .before .before .before .pre .1 .0 .0 .whole
-
-  t-whole-plan-requires : try-choice-lts.Need-whole-plan-requires (try-calls t) (try-choice-at t) try-choice.Post
-  t-whole-plan-requires c κs = search needs
+  t-carry-requires : try-choice-lts.Need-carry-requires (try-calls t) (try-choice-at t) try-choice.Post
+  t-carry-requires c κs =
+      let q = c .before .before .before .before .before .before .before .before .pre .1 in
+      record { block = q .block; at = carrying-at (q .at) }
 
   t-open-train-requires : try-choice-lts.Need-open-train-requires (try-calls t) (try-choice-at t) try-choice.Post
   t-open-train-requires c κs =
-      let g = c .before .before in
-      let f = g .before .before .before .before in
-      let d = f .before in
-      let s = d .before .before in
-      let p = s .pre .1 .1 in
-      let n = eqb-false (s .args .w .count) (s .args .budget) (sym (d .runs-out .ensures) ∙ f .if2 .left) in
-      let h : s .args .t + 1 < trains (s .args .b .now) = omega (arith, p .train, c .if4 .left, c .before .trains .ensures) in (
-        omega (arith, p .choice),
-        (
-          s .pre .1 .0,
-          record {
-            within = p .within;
-            train = h;
-            decided = rw (g .with-choice .ensures) (p .decided);
-            count = omega (arith, p .count, ap (λ (v : Walk). v .count) (g .before .count-try2 .ensures));
-          },
-        ),
+      let s = c .before .before .before .before .before .before .before .before .before .before .before .before .before in
+      let q = s .pre .1 in
+      let p = q .at in
+      let h : s .args .t + 1 < trains (q .block) = omega (arith, p .train, p .laid .n, c .before .before .before .before .before .before .before .if3 .left) in (
+        omega (arith, p .choice, p .laid .sizes (s .args .t) (p .train)),
+        record { block = q .block; at = record { study = p .study; laid = p .laid; train = h; decided = p .decided; summed = c .before .before .before .before .carry .ensures .summed (q .block) (carrying-at p) } },
       )
 
   t-returns-4 : try-choice-lts.Need-returns-4 (try-calls t) (try-choice-at t) try-choice.Post
   t-returns-4 c =
-      let g = c .before .before .before in
-      let f = g .before .before .before .before in
-      let d = f .before in
-      let s = d .before .before in
-      c .whole-plan .ensures ∙ sym (try-whole _ _ _ _ _ _ (s .args .w) (d .before .if1 .left) (sym (d .runs-out .ensures) ∙ f .if2 .left) (sym (g .before .before .before .drops .ensures) ∙ g .before .before .if3 .left) (g .with-choice .ensures) (g .before .count-try2 .ensures) (c .before .if4 .taken ∙ c .before .before .trains .ensures))
-
-  t-returns-5 : try-choice-lts.Need-returns-5 (try-calls t) (try-choice-at t) try-choice.Post
-  t-returns-5 c =
-      let g = c .before .before .before in
-      let f = g .before .before .before .before in
-      let d = f .before in
-      let s = d .before .before in
-      c .open-train .ensures ∙ sym (try-opens _ _ _ _ _ _ (s .args .w) (d .before .if1 .left) (sym (d .runs-out .ensures) ∙ f .if2 .left) (sym (g .before .before .before .drops .ensures) ∙ g .before .before .if3 .left) (g .with-choice .ensures) (g .before .count-try2 .ensures) (omega (arith, s .pre .1 .1 .train, c .before .if4 .left, c .before .before .trains .ensures)))
+      let s = c .before .before .before .before .before .before .before .before .before .before .before .before .before .before in
+      let o = s .pre .1 in
+      let q = o .at in
+      let r = c .open-train .ensures in
+      let d = c .before .before .before .before .before .carry .ensures in
+      record {
+        walk = λ b budget p m.
+            let h : s .args .t + 1 < trains b = omega (arith, p .train, p .laid .n, c .before .before .before .before .before .before .before .before .if3 .left) in
+            held-opens b budget (s .args .t) (s .args .a) (s .args .total .0) (s .args .left) (s .args .best .now) (s .args .chosen .now) (s .args .plan .now) m (trying-low p) (c .before .before .before .before .before .before .before .before .before .before .before .before .before .if1 .left) (c .before .before .before .before .before .before .before .before .before .before .if2 .left) h
+            (r .walk b budget (record { study = p .study; laid = p .laid; train = h; decided = p .decided; summed = d .summed b (carrying-at p) }) (omega arith));
+        fewer = omega (arith, r .fewer);
+        kept = alike-trans (alike-set _ _ _ _ (omega (arith, q .train, q .laid .n))) (alike-less (r .kept));
+        steady = steady-trans (d .steady)
+            (steady-less (begin-next (o .block) (s .args .t) _ _ (q .laid .begins (s .args .t) (omega (arith, q .train))) (q .laid .begins (s .args .t + 1) (omega (arith, q .train)))) (r .steady));
+      }
 
 pub +open-train+try-choice-spec : {M : Type 1} → statement M
 +open-train+try-choice-spec = close μ-open-train μ-try-choice
-    (λ t. open-train-lts.spec (open-calls t) (open-train-at t) open-train.Post open-train-Inv-loop open-train-μ-loop (o-size-requires t) (o-sums-of-requires t) (o-loop-holds t) (o-mul-sum t) (o-array-read-sum t) (o-try-choice-requires t) (o-add-a t) (o-loop-less t) (o-loop-again t) (o-returns t))
-    (λ t. try-choice-lts.spec (try-calls t) (try-choice-at t) try-choice.Post (t-returns t) (t-runs-out-requires t) (t-mark-spent-requires t) (t-returns-2 t) (t-drops-requires t) (t-count-try-requires t) (t-returns-3 t) (t-count-try-requires-2 t) (t-with-choice-requires t) (t-add-u t) (t-trains-requires t) (t-whole-plan-requires t) (t-open-train-requires t) (t-returns-4 t) (t-returns-5 t))
+    (λ t. open-train-lts.spec (open-calls t) (open-train-at t) open-train.Post open-train-Inv-loop open-train-μ-loop (o-add-row-from t) (o-mul-row-from t) (o-element-copy-out-row-from t) (o-row-from-requires t) (o-add-d t) (o-mul-d t) (o-element-copy-out-d t) (o-loop-holds t) (o-mul-sum t) (o-array-read-sum t) (o-try-choice-requires t) (o-add-a t) (o-loop-less t) (o-loop-again t) (o-returns t))
+    (λ t. try-choice-lts.spec (try-calls t) (try-choice-at t) try-choice.Post (t-returns t) (t-sub-rest t) (t-returns-2 t) (t-cast-chosen t) (t-element-write-chosen t) (t-add-u t) (t-element-copy-out-if3 t) (t-returns-3 t) (t-carry-requires t) (t-open-train-requires t) (t-returns-4 t))

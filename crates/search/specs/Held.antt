@@ -1,0 +1,141 @@
+-- The walk as the code holds it: the tries left, the total to beat and the best plan, each by itself; and where it stands.
+use mathlib.Core.Path.{_≡_}
+use mathlib.Core.Bool.{cond}
+use mathlib.Core.List.{List}
+use Prim.Native.Nat.{ℕ, _+_, _-_, _^_, _<_, _≤_}
+use lib.Dec.{ltb, eqb}
+use lib.IntN.{ℤ}
+use lib.ListN.{length, getD, set}
+use Rattle.units.specs.Units.{theParts}
+use Rattle.tables.specs.Sum.{sum}
+use Rattle.tables.specs.Block.{maxTrains, maxChoices, trains, size, second, heldChoice}
+use Rattle.tables.specs.WellFormed.{Study}
+use Rattle.search.specs.declared.walk.Walk.{Walk}
+use Rattle.search.specs.Walk.{choicesOf, pairAdded, added, partialTotal, oneTry, triedFrom, openedTrain}
+use Rattle.search.specs.Links.{ownRow, pairRow, sumsLength}
+use Rattle.search.specs.Table.{trainsPlace, beginOf, Laid}
+
+-- ---- a walk by the numbers that are held
+
+-- the total to beat while no plan is known: above every total, and so far below 2^64 that sums of it and of costs fit
+abbrev pub unknown : ℕ
+unknown = 2 ^ 50
+
+-- a walk by `left`, the total to beat and the plan. `left` is one more than the tries left, and 0 once the walk is spent
+unfoldable pub walkOf : ℕ → ℕ → ℕ → List ℕ → Walk
+walkOf budget left best plan =
+    record {
+      count = budget - (left - 1);
+      spent = eqb left 0;
+      found = ltb best unknown;
+      best = theParts (cond (ltb best unknown) best 0);
+      plan = plan;
+    }
+
+-- what choice a of train t comes to
+abbrev pub comesTo : List ℤ → ℕ → ℕ → List ℕ → ℕ → ℕ
+comesTo b t partial chosen a = partial + added b (choicesOf chosen) t a
+
+-- the try of choice a at train t, which comes to `total`
+unfoldable pub tryOf : List ℤ → ℕ → ℕ → ℕ → List ℕ → ℕ → Walk → Walk
+tryOf b budget t total chosen a = oneTry budget total (openedTrain b budget (trains b - (t + 1)) (t + 1) total (set chosen t a))
+
+abbrev pub choiceOf : List ℤ → ℕ → ℕ → ℕ → List ℕ → ℕ → Walk → Walk
+choiceOf b budget t partial chosen a = tryOf b budget t (comesTo b t partial chosen a) chosen a
+
+-- the tries of a train's choices from a on
+abbrev pub choicesFrom : List ℤ → ℕ → ℕ → ℕ → ℕ → List ℕ → Walk → Walk
+choicesFrom b budget t a partial chosen = triedFrom (choiceOf b budget t partial chosen) (size b t - a) a
+
+-- ---- the choices and the sums
+
+-- the first t trains are decided: each has one of its choices, and the partial total is theirs
+pub record Decided (b : List ℤ) (t partial : ℕ) (chosen : List ℕ) : Type 0 where
+  pub whole : length chosen ≡ maxTrains
+  pub below : (i : ℕ) → i < t → getD chosen i 0 < size b i
+  pub total : partial ≡ partialTotal b (choicesOf chosen) t
+
+-- two lists of choices that differ at trains from t on only
+pub record Alike (t n : ℕ) (x y : List ℕ) : Type 0 where
+  pub same : length x ≡ length y
+  pub before : (i : ℕ) → i < t → getD x i 0 ≡ getD y i 0
+  pub after : (i : ℕ) → n ≤ i → getD x i 0 ≡ getD y i 0
+
+-- a row of sums: a number for each choice of a train, also for those past its last
+pub record Sums (f : ℕ → ℕ) (l : List ℕ) : Type 0 where
+  pub whole : length l ≡ maxChoices
+  pub each : (a : ℕ) → a < maxChoices → getD l a 0 ≡ f a
+
+-- the rows of the pairs below f are summed, with the choices x
+pub record Summed (b : List ℤ) (x : ℕ → ℕ) (q : List ℕ) (f : ℕ) : Type 0 where
+  pub whole : length q ≡ sumsLength
+  pub own : (j a : ℕ) → j < trains b → a < maxChoices → getD q (ownRow j + a) 0 ≡ heldChoice b j a
+  pub rows : (k a : ℕ) → k < f → a < maxChoices → getD q (pairRow k + a) 0 ≡ heldChoice b (second b k) a + sum (k + 1) (pairAdded b x (second b k) a)
+
+-- the rows before that of pair f stay
+pub record Steady (f : ℕ) (q q₁ : List ℕ) : Type 0 where
+  pub same : length q₁ ≡ length q
+  pub stays : (p : ℕ) → p < pairRow f → getD q₁ p 0 ≡ getD q p 0
+
+-- ---- where the walk stands
+
+-- train t of the study in b is opened, l is the table of that study, and q the sums so far
+pub record At (b : List ℤ) (l q : List ℕ) (t partial : ℕ) (chosen : List ℕ) : Type 0 where
+  pub study : Study b
+  pub laid : Laid b l
+  pub train : t < trains b
+  pub decided : Decided b t partial chosen
+  pub summed : Summed b (choicesOf chosen) q (beginOf l t)
+
+-- or its choice a is tried: with it, train t is decided too
+pub record Trying (b : List ℤ) (l q : List ℕ) (t a total : ℕ) (chosen : List ℕ) : Type 0 where
+  pub study : Study b
+  pub laid : Laid b l
+  pub train : t < trains b
+  pub choice : a < size b t
+  pub decided : Decided b (t + 1) total (set chosen t a)
+  pub summed : Summed b (choicesOf chosen) q (beginOf l t)
+
+-- or that choice is carried to the sums
+pub record Carrying (b : List ℤ) (l q : List ℕ) (t : ℕ) (chosen : List ℕ) : Type 0 where
+  pub study : Study b
+  pub laid : Laid b l
+  pub train : t < trains b
+  pub below : (i : ℕ) → i < t + 1 → getD chosen i 0 < size b i
+  pub summed : Summed b (choicesOf chosen) q (beginOf l t)
+
+-- so stands some study that has this table
+pub record Opened (l q : List ℕ) (t partial : ℕ) (chosen : List ℕ) : Type 0 where
+  pub block : List ℤ
+  pub at : At block l q t partial chosen
+
+pub record Tried (l q : List ℕ) (t a total : ℕ) (chosen : List ℕ) : Type 0 where
+  pub block : List ℤ
+  pub at : Trying block l q t a total chosen
+
+pub record Carry (l q : List ℕ) (t : ℕ) (chosen : List ℕ) : Type 0 where
+  pub block : List ℤ
+  pub at : Carrying block l q t chosen
+
+-- ---- where it leads
+
+-- for every study that has this table: the rows of the pairs that t begins are summed too
+pub record CarriedTo (l q : List ℕ) (t : ℕ) (chosen q₁ : List ℕ) : Type 0 where
+  pub summed : (b : List ℤ) → Carrying b l q t chosen → Summed b (choicesOf chosen) q₁ (beginOf l (t + 1))
+  pub steady : Steady (beginOf l t) q q₁
+
+-- what opening train t leads to: for every study that has this table and every budget, what the definition says. The choices and the rows before t stay
+pub record OpenedTo (l q : List ℕ) (t partial : ℕ) (chosen : List ℕ) (left best : ℕ) (plan : List ℕ) (left₁ best₁ : ℕ) (plan₁ chosen₁ q₁ : List ℕ) : Type 0 where
+  pub walk : (b : List ℤ) (budget : ℕ) → At b l q t partial chosen → left ≤ budget + 1
+      → walkOf budget left₁ best₁ plan₁ ≡ choicesFrom b budget t 0 partial chosen (walkOf budget left best plan)
+  pub fewer : left₁ ≤ left
+  pub kept : Alike t (getD l trainsPlace 0) chosen chosen₁
+  pub steady : Steady (beginOf l t) q q₁
+
+-- and what trying its choice a leads to
+pub record TriedTo (l q : List ℕ) (t a total : ℕ) (chosen : List ℕ) (left best : ℕ) (plan : List ℕ) (left₁ best₁ : ℕ) (plan₁ chosen₁ q₁ : List ℕ) : Type 0 where
+  pub walk : (b : List ℤ) (budget : ℕ) → Trying b l q t a total chosen → left ≤ budget + 1
+      → walkOf budget left₁ best₁ plan₁ ≡ tryOf b budget t total chosen a (walkOf budget left best plan)
+  pub fewer : left₁ ≤ left
+  pub kept : Alike t (getD l trainsPlace 0) chosen chosen₁
+  pub steady : Steady (beginOf l t) q q₁
