@@ -21,12 +21,21 @@ const PLANS: i64 = 5;
 /// Document 01's J: 2 trains of 2 choices, 1 pair.
 const SMALL_LOAD: &str = "010200010202000002000000000000000000010001000001000000000003000002";
 
+/// How the reply to a search begins.
+const SEARCH_REPLY: &str = "86";
+
 /// A line, the block that it is given, and how the reply must begin.
 pub struct Input {
     pub name: String,
     pub block: Vec<i64>,
     pub line: Vec<u8>,
     pub reply: &'static str,
+}
+
+impl Input {
+    pub fn is_search(&self) -> bool {
+        self.reply == SEARCH_REPLY
+    }
 }
 
 /// Every kind of line and some that are refused, on the small and on the full study.
@@ -40,11 +49,20 @@ pub fn short_inputs() -> Vec<Input> {
 
 /// A search with the long budget on each of the full studies.
 pub fn long_inputs() -> Vec<Input> {
+    searches("long-search", LONG_BUDGET)
+}
+
+/// The rows of all of these.
+pub fn all() -> impl Iterator<Item = Input> {
+    [short_inputs(), long_inputs()].into_iter().flatten()
+}
+
+fn searches(name: &str, budget: i64) -> Vec<Input> {
     let input = |(seed, top): (u64, i64)| Input {
-        name: format!("long-search-{seed}"),
+        name: format!("{name}-{seed}"),
         block: block_of(&full_study(seed, top)),
-        line: search_line(LONG_BUDGET),
-        reply: "86",
+        line: search_line(budget),
+        reply: SEARCH_REPLY,
     };
     LONG_STUDIES.into_iter().map(input).collect()
 }
@@ -61,7 +79,7 @@ fn inputs_of(size: &str, study: &Study) -> Vec<Input> {
         ("shift", &held, shift_line(study), "83"),
         ("tighten", &held, b"04".to_vec(), "84"),
         ("certify", &held, certify_line(study), "85"),
-        ("search", &held, search_line(SMALL_BUDGET), "86"),
+        ("search", &held, search_line(SMALL_BUDGET), SEARCH_REPLY),
         ("refused-character", &held, with_end(&longest, b"G"), "FF01"),
         ("refused-cost", &held, with_end(&longest, b"FFFFFF"), "FF07"),
         ("refused-kind", &held, b"07".to_vec(), "FF03"),

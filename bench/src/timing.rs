@@ -1,6 +1,7 @@
-//! How calls are timed.
+//! How calls are compared and timed.
 
 use crate::inputs::Input;
+use crate::services::Named;
 use reference::calls::Call;
 use reference::calls::Setting::AsLeft;
 use reference::{Service, LEAST_BUFFER};
@@ -10,16 +11,10 @@ use std::time::{Duration, Instant};
 /// About how long a batch of calls takes: long against the clock's resolution.
 const BATCH: Duration = Duration::from_micros(200);
 
-/// The lent block and the lent reply buffer: one of each for all calls of both services.
+/// The lent block and the lent reply buffer: one of each for all calls of all services.
 pub struct Lent {
     block: Vec<i64>,
     reply: [u8; LEAST_BUFFER],
-}
-
-/// The median time of a call, in nanoseconds.
-pub struct Medians {
-    pub ours: f64,
-    pub reference: f64,
 }
 
 impl Lent {
@@ -55,12 +50,20 @@ impl Lent {
     }
 }
 
-/// Runs both services once: reply, block and buffer must be the same, and the reply of the row's kind.
-pub fn compare(ours: Service, reference: Service, input: &Input) -> Result<Compared, String> {
+/// What the services agree in.
+pub struct Compared {
+    /// Whether the block is left as it was.
+    pub keeps: bool,
+    pub reply: Vec<u8>,
+}
+
+/// Runs each service once: reply, block and buffer must be the same, and the reply of the row's kind.
+pub fn compare(services: &[Named], input: &Input) -> Result<Compared, String> {
     let call = Call { capacity: LEAST_BUFFER, setting: AsLeft, line: input.line.clone() };
-    let outcome = call.run(ours, &mut input.block.clone());
-    if outcome != call.run(reference, &mut input.block.clone()) {
-        return Err(format!("{}: the two services differ", input.name));
+    let run = |named: &Named| call.run(named.service, &mut input.block.clone());
+    let outcome = run(&services[0]);
+    if let Some(other) = services[1..].iter().find(|named| run(named) != outcome) {
+        return Err(format!("{}: {} and {} differ", input.name, services[0].name, other.name));
     }
     if !outcome.reply().starts_with(input.reply.as_bytes()) {
         return Err(format!("{}: the reply is of another kind", input.name));
@@ -68,31 +71,43 @@ pub fn compare(ours: Service, reference: Service, input: &Input) -> Result<Compa
     Ok(Compared { keeps: outcome.block == input.block, reply: outcome.reply().to_vec() })
 }
 
-/// What the two services agree in.
-pub struct Compared {
-    /// Whether the block is left as it was.
-    pub keeps: bool,
-    pub reply: Vec<u8>,
+/// A figure of every round: the time of a call in nanoseconds, or a ratio of two times.
+pub struct Rounds(Vec<f64>);
+
+impl Rounds {
+    /// The quartiles: 0 is the least, 2 the median, 4 the highest.
+    pub fn quartile(&self, number: usize) -> f64 {
+        let mut sorted = self.0.clone();
+        sorted.sort_by(f64::total_cmp);
+        sorted[number * (sorted.len() - 1) / 4]
+    }
+
+    pub fn least(&self) -> f64 {
+        self.quartile(0)
+    }
+
+    pub fn median(&self) -> f64 {
+        self.quartile(2)
+    }
+
+    /// The ratio of the two figures of each round.
+    pub fn over(&self, other: &Self) -> Self {
+        Self(self.0.iter().zip(&other.0).map(|(figure, other)| figure / other).collect())
+    }
 }
 
-/// Times both services in turn: ours, reference, ours, reference, and so on.
-pub fn medians(ours: Service, reference: Service, input: &Input, keeps: bool, rounds: usize) -> Medians {
+/// Times the services in turn: a batch of each is a round.
+pub fn times(services: &[Named], input: &Input, keeps: bool, rounds: usize) -> Vec<Rounds> {
     let mut lent = Lent::new(input);
-    lent.calls(ours, input, 1);
-    let once = lent.calls(reference, input, 2) / 2;
-    let count = (BATCH.as_nanos() / once.as_nanos().max(1)).max(1) as usize;
+    let once = services.iter().map(|named| lent.calls(named.service, input, 2) / 2);
+    let slowest = once.max().unwrap_or_default();
+    let count = (BATCH.as_nanos() / slowest.as_nanos().max(1)).max(1) as usize;
     lent.block.copy_from_slice(&input.block);
-    let mut times = [Vec::new(), Vec::new()];
+    let mut times: Vec<Rounds> = services.iter().map(|_| Rounds(Vec::new())).collect();
     for _ in 0..rounds {
-        for (times, service) in times.iter_mut().zip([ours, reference]) {
-            times.push(lent.timed(service, input, count, keeps));
+        for (times, named) in times.iter_mut().zip(services) {
+            times.0.push(lent.timed(named.service, input, count, keeps));
         }
     }
-    let [ours, reference] = times.map(median);
-    Medians { ours, reference }
-}
-
-fn median(mut times: Vec<f64>) -> f64 {
-    times.sort_by(f64::total_cmp);
-    times[times.len() / 2]
+    times
 }
