@@ -52,9 +52,14 @@ pub fn long_inputs() -> Vec<Input> {
     searches("long-search", LONG_BUDGET)
 }
 
+/// A search of one try on each of them: what a long search does besides its walk.
+pub fn one_try_inputs() -> Vec<Input> {
+    searches("one-try", 1)
+}
+
 /// The rows of all of these.
 pub fn all() -> impl Iterator<Item = Input> {
-    [short_inputs(), long_inputs()].into_iter().flatten()
+    [short_inputs(), long_inputs(), one_try_inputs()].into_iter().flatten()
 }
 
 fn searches(name: &str, budget: i64) -> Vec<Input> {

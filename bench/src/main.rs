@@ -1,9 +1,12 @@
 //! Times the product's service beside the reference and an expert's walk (see README.md). Words: none for the
-//! tables of times, `--only SERVICE ROW CALLS` for the calls of one row on one service, for a profiler.
+//! tables of times, `--count` for instructions, `--stack` for the stack of the product's calls,
+//! `--only SERVICE ROW CALLS` for the calls of one row on one service, for a profiler.
 
+mod counting;
 mod expert;
 mod inputs;
 mod services;
+mod stack;
 mod tables;
 mod timing;
 
@@ -21,8 +24,10 @@ fn run() -> Result<(), Box<dyn Error>> {
     let words: Vec<&str> = words.iter().map(String::as_str).collect();
     match words[..] {
         [] => tables::print(),
+        ["--count"] => counting::print(),
+        ["--stack"] => stack::print(),
         ["--only", name, row, calls] => only(name, row, calls.parse()?),
-        _ => Err("usage: bench/run [--only ours|reference|expert ROW CALLS]".into()),
+        _ => Err("usage: bench/run [--count | --stack | --only ours|reference|expert ROW CALLS]".into()),
     }
 }
 

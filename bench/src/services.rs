@@ -7,14 +7,16 @@ use reference::{product, Service};
 pub struct Named {
     pub name: &'static str,
     pub service: Service,
+    /// The service's function, as a profiler calls it.
+    pub function: &'static str,
 }
 
 /// All services: ours first, the expert's walk last.
 pub fn all() -> Result<[Named; 3], String> {
     Ok([
-        Named { name: "ours", service: product::service()? },
-        Named { name: "reference", service: reference::answer },
-        Named { name: "expert", service: expert::answer },
+        Named { name: "ours", service: product::service()?, function: "junction_answer" },
+        Named { name: "reference", service: reference::answer, function: "reference::answer" },
+        Named { name: "expert", service: expert::answer, function: "junction_bench::expert::answer" },
     ])
 }
 

@@ -102,7 +102,7 @@ fn ratio(ours: &Rounds, other: &Rounds) -> String {
 }
 
 /// "Search: 86, 01 ended or 00 spent, count (4)": the count of a reply.
-fn tries(reply: &[u8]) -> Result<u64, Box<dyn Error>> {
+pub fn tries(reply: &[u8]) -> Result<u64, Box<dyn Error>> {
     let count = reply.get(4..12).ok_or("no reply of a search")?;
     Ok(u64::from_str_radix(std::str::from_utf8(count)?, 16)?)
 }
