@@ -29,7 +29,7 @@ use Rattle.lines.specs.Numbers.{entriesOf, numbersOf}
 use Rattle.lines.specs.Verdicts.{firstOf, fieldVerdict, pairOrdered, pairVerdict, headVerdict, restVerdict, loadVerdict}
 use Rattle.reader.specs.Reading.{addVerdict, shiftVerdict, certifyVerdict, searchVerdict, studyLine, kindLine, lineOf}
 use Rattle.search.specs.Walk.{partialTotal, oneTry, triedFrom, openedTrain, searched}
-use Rattle.search.specs.Walk as walk
+use Rattle.rows.specs.Added as rows
 use Rattle.search.specs.Answer.{searchAnswer}
 use Rattle.replies.specs.Replies.{refusalReply, boundReply, certifyReply, planDigits, searchReply}
 use Rattle.service.specs.Answer.{requested, answer}
@@ -96,5 +96,5 @@ table =
     ∷ []
 
 pub table-right : T (right table)
-unfolding codes said same session load tighten sum all pass roundedUp figure within choiceUsed entryUsed headLimits shapeLimits costLimits limitsAt placesRight before follows pairRight pairsRight isZero fresh holdsStudy wellFormed shapeOf heldCosts iter least moveRun pairShifted shifted runLeast runTightened pairTightened tightened added loadedBlock trainBalanced rowBalanced columnBalanced pairBalanced balanced overChoices overPairs weighted digit digitOf byteAt field signed fieldDigits allDigits framed pairAt listFrom entriesOf numbersOf firstOf fieldVerdict pairOrdered pairVerdict headVerdict restVerdict loadVerdict addVerdict shiftVerdict certifyVerdict searchVerdict studyLine kindLine lineOf walk.added partialTotal oneTry triedFrom openedTrain searched searchAnswer refusalReply boundReply certifyReply planDigits searchReply requested answer right table
+unfolding codes said same session load tighten sum all pass roundedUp figure within choiceUsed entryUsed headLimits shapeLimits costLimits limitsAt placesRight before follows pairRight pairsRight isZero fresh holdsStudy wellFormed shapeOf heldCosts iter least moveRun pairShifted shifted runLeast runTightened pairTightened tightened added loadedBlock trainBalanced rowBalanced columnBalanced pairBalanced balanced overChoices overPairs weighted digit digitOf byteAt field signed fieldDigits allDigits framed pairAt listFrom entriesOf numbersOf firstOf fieldVerdict pairOrdered pairVerdict headVerdict restVerdict loadVerdict addVerdict shiftVerdict certifyVerdict searchVerdict studyLine kindLine lineOf rows.added partialTotal oneTry triedFrom openedTrain searched searchAnswer refusalReply boundReply certifyReply planDigits searchReply requested answer right table
 table-right = tt

@@ -12,7 +12,7 @@ use Rattle.certificates.specs.declared.certify.Ceiling.{Ceiling}
 use Rattle.certificates.specs.Certify.{Weights, certificate}
 use Rattle.certificates.specs.Rival.{Rival, IsRival, ConstantAtMost}
 use Rattle.certificates.proofs.Ceilings.{certify-rival, rival-cong, rival-shape}
-use Rattle.search.specs.Walk.{choicesOf}
+use Rattle.rows.specs.Added.{choicesOf}
 use Rattle.search.specs.Answer.{searchAnswer}
 use Rattle.search.proofs.Theorems.{answer-plan, answer-cost, answer-least}
 use Rattle.claims.specs.Ledger.{Ledger, costOf}

@@ -19,8 +19,8 @@ use Rattle.lines.specs.declared.refusal.Refusal.{Refusal}
 use Rattle.lines.specs.declared.refusal.Refusal.the-variants.{PartsOutside}
 use Rattle.lines.specs.Layout.{kindOf}
 use Rattle.lines.specs.Refusals.{refusalNumber}
+use Rattle.rows.specs.Added.{choicesOf}
 use Rattle.search.specs.declared.answer.Found.{Found}
-use Rattle.search.specs.Walk.{choicesOf}
 use Rattle.replies.specs.Replies.{refusalByte, refusalReply, figureWidth, boundOf, boundReply, certifyReply, shownCost, shownChoice, searchReply}
 use Rattle.claims.specs.Ledger.{Entry, Ledger, accepted, costOf}
 use Rattle.claims.specs.Claims.{PlanOf, kindShown, costShown, planShown, showsPlan, scaledCost, AtLine}

@@ -12,8 +12,9 @@ use lib.Seq.{getD-set-same, getD-set-other}
 use Rattle.tables.specs.Block.{maxTrains, trains, size}
 use Rattle.tables.specs.WellFormed.{Study}
 use Rattle.tables.proofs.Study.{trains-range}
+use Rattle.rows.specs.Added.{choicesOf, added}
 use Rattle.search.specs.declared.walk.Walk.{Walk}
-use Rattle.search.specs.Walk.{choicesOf, added, oneTry, triedFrom, choiceTry, openedTrain}
+use Rattle.search.specs.Walk.{oneTry, triedFrom, choiceTry, openedTrain}
 use Rattle.search.specs.Held.{Alike, Decided, tryOf}
 use Rattle.search.proofs.Totals.{added-cong, partial-cong}
 

@@ -9,15 +9,17 @@ use lib.IntN.{ℤ}
 use lib.ListN.{getD, set}
 use borrow.Author.Tests.{lt-ltb, le-leb, lt-leb, eq-eqb, ne-eqb}
 use Rattle.units.specs.Units.{theParts}
-use Rattle.tables.specs.Block.{maxTrains, maxChoices, maxPairs, trains, pairs, size}
-use Rattle.tables.proofs.Study.{trains-range, pairs-range, size-range}
+use Rattle.tables.specs.Block.{maxChoices, trains, pairs, size}
+use Rattle.tables.proofs.Study.{trains-range, pairs-range}
+use Rattle.rows.specs.Added.{choicesOf, added}
+use Rattle.rows.specs.Sums.{Steady, Carrying, Sums}
 use Rattle.search.specs.declared.walk.Walk.{Walk}
-use Rattle.search.specs.Walk.{choicesOf, added, counted, wholePlan, dropped, noChoices, nothingTried}
-use Rattle.search.specs.Held.{unknown, walkOf, Alike, Steady, At, Trying, Carrying, comesTo, tryOf, choicesFrom, Sums}
-use Rattle.search.specs.Links.{sumsLength}
-use Rattle.search.specs.Table.{endsFrom, trainsPlace, beginOf}
-use Rattle.search.proofs.Rows.{begin-next, steady-refl, summed-cong, summed-steady, end-sum, end-low}
-use Rattle.search.proofs.Written.{kept}
+use Rattle.search.specs.Walk.{counted, wholePlan, dropped, noChoices, nothingTried}
+use Rattle.search.specs.Held.{unknown, walkOf, Alike, At, Trying, comesTo, tryOf, choicesFrom}
+use Rattle.rows.specs.Links.{sumsLength}
+use Rattle.rows.specs.Table.{endsFrom, trainsPlace, beginOf}
+use Rattle.rows.proofs.Rows.{steady-refl, summed-cong, summed-steady, end-sum, end-low}
+use Rattle.rows.proofs.Written.{kept}
 use Rattle.search.proofs.Totals.{decided-low, decided-next, room}
 use Rattle.search.proofs.Alike.{alike-next, try-alike, decided-alike}
 use Rattle.search.proofs.Tries.{try-spent, try-out, try-dropped, try-whole, try-opens, more-left}
@@ -152,11 +154,3 @@ carrying-at {b} {l} {q} {t} {a} {total} {x} p =
       below = p .decided .below;
       summed = summed-cong b (choicesOf x) (choicesOf (set x t a)) q t (beginOf l t) (p .laid .begins t (omega (arith, p .train))) (λ i h. sym (kept x t a i h)) (p .summed);
     }
-
--- what keeps its places within the table and the sums
-pub carrying-room : {b : List ℤ} {l q : List ℕ} {t : ℕ} {x : List ℕ} → Carrying b l q t x
-    → (t < maxTrains) × (beginOf l t ≤ beginOf l (t + 1)) × (beginOf l (t + 1) ≤ maxPairs) × (getD x t 0 < maxChoices)
-carrying-room {b} {l} {q} {t} {x} p =
-    let g = p .laid .begins t (omega (arith, p .train)) in
-    let h = p .laid .begins (t + 1) (omega (arith, p .train)) in
-    (omega (arith, p .train, trains-range (p .study)), begin-next b t _ _ g h, omega (arith, h .high, pairs-range (p .study)), omega (arith, p .below t (omega arith), size-range (p .study) t (p .train)))

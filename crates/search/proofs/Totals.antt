@@ -1,6 +1,6 @@
 -- The partial total: what a choice adds depends on the trains before it only, and over all trains the partial total is the plan's total.
 use mathlib.Core.Path.{_≡_, refl, sym, ap, _∙_}
-use mathlib.Core.Bool.{Bool, true, false, cond}
+use mathlib.Core.Bool.{cond}
 use mathlib.Core.List.{List}
 use mathlib.Core.Logic.{dite}
 use Prim.Native.Nat.{ℕ, zero, suc, _+_, _*_, _^_, _<_, _≤_}
@@ -12,15 +12,15 @@ use lib.ListN.{length, set, length-set}
 use lib.Seq.{getD-set-same}
 use borrow.Author.Tests.{eq-eqb, ne-eqb}
 use Rattle.tables.specs.Sum.{sum}
-use Rattle.tables.specs.Block.{blockLength, maxChoices, maxPairs, maxParts, entriesOfPair, heldChoicePlace, heldEntryPlace, figure, trains, pairs, constant, size, first, second, heldChoice, heldEntry}
-use Rattle.tables.specs.WellFormed.{Study, from-to, usedIf, choiceUsed, entryUsed, limitsAt}
+use Rattle.tables.specs.Block.{maxChoices, maxPairs, maxParts, trains, pairs, constant, size, first, second, heldChoice, heldEntry}
+use Rattle.tables.specs.WellFormed.{Study}
 use Rattle.tables.specs.Plans.{choiceTotal, pairTotal, total, shapeOf, heldCosts, heldTotal}
 use Rattle.tables.proofs.Sum.{sum-none, sum-more, sum-cong, sum-most, sum-add, sum-swap, sum-pick}
-use Rattle.tables.proofs.Limits.{Within, limits-held-choices, limits-held-entries}
-use Rattle.tables.proofs.Study.{study-place, trains-range, pairs-range, constant-range, size-range, first-below-second, second-below-trains}
-use Rattle.search.specs.Walk.{choicesOf, pairAdded, added, partialTotal, noChoices}
+use Rattle.tables.proofs.Study.{held-choice-high, held-entry-high, trains-range, pairs-range, constant-range, size-range, first-below-second, second-below-trains}
+use Rattle.rows.specs.Added.{choicesOf, pairAdded, added}
+use Rattle.search.specs.Walk.{partialTotal, noChoices}
 use Rattle.search.specs.Held.{Decided}
-use Rattle.search.proofs.Written.{written, kept}
+use Rattle.rows.proofs.Written.{written, kept}
 
 -- the most that a choice adds: its own cost, and one of each pair
 abbrev pub maxAdded : ℕ
@@ -61,24 +61,13 @@ module _ {b : List ℤ} (s : Study b) where
             (λ i q. added-cong x y i (x i) (λ j r. h j (omega arith)) ∙ ap (added b y i) (h i q)),
       )
 
-  -- a held cost is at most L, also that of a choice past the last
-  most : (used : Bool) (p : ℕ) → p < blockLength → limitsAt b p ≡ usedIf used (from-to 0 maxParts) → figure b p ≤ maxParts
-  most true p h e = let w : Within (from-to 0 maxParts) b p = rw e at (study-place s p h) in w .high
-  most false p h e = let w : Within (from-to 0 0) b p = rw e at (study-place s p h) in omega (arith, w .high)
-
-  pub choice-most : (t a : ℕ) → t < trains b → a < maxChoices → heldChoice b t a ≤ maxParts
-  choice-most t a h q = most (choiceUsed b (maxChoices * t + a)) (heldChoicePlace t a) (omega (arith, trains-range s)) (limits-held-choices b (maxChoices * t + a) (omega (arith, trains-range s)))
-
-  pub entry-most : (k c a : ℕ) → k < pairs b → c < maxChoices → a < maxChoices → heldEntry b k c a ≤ maxParts
-  entry-most k c a h p q = most (entryUsed b (entriesOfPair * k + (maxChoices * c + a))) (heldEntryPlace k c a) (omega (arith, pairs-range s)) (limits-held-entries b (entriesOfPair * k + (maxChoices * c + a)))
-
   module _ (x : ℕ → ℕ) (t a : ℕ) (p : t < trains b) (q : a < maxChoices) (below : (i : ℕ) → i < t → x i < size b i) where
     pair-added-low : (k : ℕ) → k < pairs b → pairAdded b x t a k ≤ maxParts
     pair-added-low k h =
         dite (ℕ-discrete (second b k) t)
         (λ (e : second b k ≡ t). rw (eq-eqb (second b k) t e)
         (let f : first b k < t = omega (arith, first-below-second s k h) in
-        entry-most k (x (first b k)) a h (omega (arith, below (first b k) f, size-range s (first b k) (omega arith))) q))
+        held-entry-high s k (x (first b k)) a (omega (arith, pairs-range s)) (omega (arith, below (first b k) f, size-range s (first b k) (omega arith))) q))
         (λ n. rw (ne-eqb (second b k) t n) (omega arith))
 
     pairs-added-low : (k : ℕ) → k ≤ pairs b → sum k (pairAdded b x t a) ≤ k * maxParts
@@ -86,7 +75,7 @@ module _ {b : List ℤ} (s : Study b) where
 
     added-low : added b x t a ≤ maxAdded
     unfolding added
-    added-low = omega (arith, choice-most t a p q, pairs-added-low (pairs b) (omega arith), pairs-range s)
+    added-low = omega (arith, held-choice-high s t a (omega (arith, trains-range s)) q, pairs-added-low (pairs b) (omega arith), pairs-range s)
 
   -- ---- trains decided
 
@@ -110,7 +99,7 @@ module _ {b : List ℤ} (s : Study b) where
         trains-range s,
         pairs-range s,
         decided-low t partial chosen (omega arith) d,
-        choice-most t a h q,
+        held-choice-high s t a (omega (arith, trains-range s)) q,
         pairs-added-low (choicesOf chosen) t a h q (d .below) k l,
       )
 

@@ -7,13 +7,13 @@ use lib.Dec.{ltb, eqb}
 use lib.IntN.{ℤ}
 use lib.ListN.{length, getD, set}
 use Rattle.units.specs.Units.{theParts}
-use Rattle.tables.specs.Sum.{sum}
-use Rattle.tables.specs.Block.{maxTrains, maxChoices, trains, size, second, heldChoice}
+use Rattle.tables.specs.Block.{maxTrains, trains, size}
 use Rattle.tables.specs.WellFormed.{Study}
+use Rattle.rows.specs.Added.{choicesOf, added}
 use Rattle.search.specs.declared.walk.Walk.{Walk}
-use Rattle.search.specs.Walk.{choicesOf, pairAdded, added, partialTotal, oneTry, triedFrom, openedTrain}
-use Rattle.search.specs.Links.{ownRow, pairRow, sumsLength}
-use Rattle.search.specs.Table.{trainsPlace, beginOf, Laid}
+use Rattle.search.specs.Walk.{partialTotal, oneTry, triedFrom, openedTrain}
+use Rattle.rows.specs.Table.{trainsPlace, beginOf, Laid}
+use Rattle.rows.specs.Sums.{Summed, Steady}
 
 -- ---- a walk by the numbers that are held
 
@@ -61,22 +61,6 @@ pub record Alike (t n : ℕ) (x y : List ℕ) : Type 0 where
   pub before : (i : ℕ) → i < t → getD x i 0 ≡ getD y i 0
   pub after : (i : ℕ) → n ≤ i → getD x i 0 ≡ getD y i 0
 
--- a row of sums: a number for each choice of a train, also for those past its last
-pub record Sums (f : ℕ → ℕ) (l : List ℕ) : Type 0 where
-  pub whole : length l ≡ maxChoices
-  pub each : (a : ℕ) → a < maxChoices → getD l a 0 ≡ f a
-
--- the rows of the pairs below f are summed, with the choices x
-pub record Summed (b : List ℤ) (x : ℕ → ℕ) (q : List ℕ) (f : ℕ) : Type 0 where
-  pub whole : length q ≡ sumsLength
-  pub own : (j a : ℕ) → j < trains b → a < maxChoices → getD q (ownRow j + a) 0 ≡ heldChoice b j a
-  pub rows : (k a : ℕ) → k < f → a < maxChoices → getD q (pairRow k + a) 0 ≡ heldChoice b (second b k) a + sum (k + 1) (pairAdded b x (second b k) a)
-
--- the rows before that of pair f stay
-pub record Steady (f : ℕ) (q q₁ : List ℕ) : Type 0 where
-  pub same : length q₁ ≡ length q
-  pub stays : (p : ℕ) → p < pairRow f → getD q₁ p 0 ≡ getD q p 0
-
 -- ---- where the walk stands
 
 -- train t of the study in b is opened, l is the table of that study, and q the sums so far
@@ -96,14 +80,6 @@ pub record Trying (b : List ℤ) (l q : List ℕ) (t a total : ℕ) (chosen : Li
   pub decided : Decided b (t + 1) total (set chosen t a)
   pub summed : Summed b (choicesOf chosen) q (beginOf l t)
 
--- or that choice is carried to the sums
-pub record Carrying (b : List ℤ) (l q : List ℕ) (t : ℕ) (chosen : List ℕ) : Type 0 where
-  pub study : Study b
-  pub laid : Laid b l
-  pub train : t < trains b
-  pub below : (i : ℕ) → i < t + 1 → getD chosen i 0 < size b i
-  pub summed : Summed b (choicesOf chosen) q (beginOf l t)
-
 -- so stands some study that has this table
 pub record Opened (l q : List ℕ) (t partial : ℕ) (chosen : List ℕ) : Type 0 where
   pub block : List ℤ
@@ -113,16 +89,7 @@ pub record Tried (l q : List ℕ) (t a total : ℕ) (chosen : List ℕ) : Type 0
   pub block : List ℤ
   pub at : Trying block l q t a total chosen
 
-pub record Carry (l q : List ℕ) (t : ℕ) (chosen : List ℕ) : Type 0 where
-  pub block : List ℤ
-  pub at : Carrying block l q t chosen
-
 -- ---- where it leads
-
--- for every study that has this table: the rows of the pairs that t begins are summed too
-pub record CarriedTo (l q : List ℕ) (t : ℕ) (chosen q₁ : List ℕ) : Type 0 where
-  pub summed : (b : List ℤ) → Carrying b l q t chosen → Summed b (choicesOf chosen) q₁ (beginOf l (t + 1))
-  pub steady : Steady (beginOf l t) q q₁
 
 -- what opening train t leads to: for every study that has this table and every budget, what the definition says. The choices and the rows before t stay
 pub record OpenedTo (l q : List ℕ) (t partial : ℕ) (chosen : List ℕ) (left best : ℕ) (plan : List ℕ) (left₁ best₁ : ℕ) (plan₁ chosen₁ q₁ : List ℕ) : Type 0 where

@@ -1,28 +1,17 @@
 -- Document 01, '06 search': the walk over plans.
-use mathlib.Core.Bool.{Bool, true, false, cond, _&&_}
+use mathlib.Core.Bool.{Bool, true, false, _&&_}
 use mathlib.Core.List.{List}
 use Prim.Native.Nat.{ℕ, zero, suc, _+_, _*_}
 use lib.Dec.{leb, eqb}
 use lib.IntN.{ℤ}
-use lib.ListN.{getD, set, replicate}
+use lib.ListN.{set, replicate}
 use Rattle.units.specs.Units.{theParts}
 use Rattle.tables.specs.Sum.{sum}
-use Rattle.tables.specs.Block.{maxTrains, trains, pairs, constant, size, first, second, heldChoice, heldEntry}
+use Rattle.tables.specs.Block.{maxTrains, trains, constant, size}
+use Rattle.rows.specs.Added.{choicesOf, added}
 use Rattle.search.specs.declared.walk.Walk.{Walk}
 
 -- ---- totals
-
--- the choices that a list gives, by train
-abbrev pub choicesOf : List ℕ → ℕ → ℕ
-choicesOf l i = getD l i 0
-
--- what pair k adds where train t takes choice a: its cost where t is its second train, so that each pair counts once, when both its trains are decided
-abbrev pub pairAdded : List ℤ → (ℕ → ℕ) → ℕ → ℕ → ℕ → ℕ
-pairAdded b x t a k = cond (eqb (second b k) t) (heldEntry b k (x (first b k)) a) 0
-
--- what choice a of train t adds to the partial total, with the choices x of the trains before
-unfoldable pub added : List ℤ → (ℕ → ℕ) → ℕ → ℕ → ℕ
-added b x t a = heldChoice b t a + sum (pairs b) (pairAdded b x t a)
 
 -- 'The partial total is c0 plus the costs in T among trains decided', the first t trains
 unfoldable pub partialTotal : List ℤ → (ℕ → ℕ) → ℕ → ℕ

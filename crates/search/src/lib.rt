@@ -1,6 +1,3 @@
 // The walk over plans: the best plan of a study that a budget of tries lets it find.
 pub mod answer;
-mod links;
-mod sums;
-mod table;
 pub mod walk;

@@ -6,8 +6,8 @@ ghost use mathlib.Core.Bool.{cond};
 ghost use Prim.Native.Nat.{_+_, _-_, _≤_};
 ghost use lib.Dec.{ltb};
 ghost use Rattle.search.specs.Held.{unknown, walkOf, Opened, Tried, OpenedTo, TriedTo};
-use crate::sums;
-use crate::table;
+use rows::sums;
+use rows::table;
 use tables::block::Block;
 use units::Parts;
 

@@ -12,7 +12,7 @@ use lib.ListN.{length, set, length-set}
 use lib.Seq.{getD-set-same, getD-set-other}
 use borrow.Author.Tests.{lt-ltb, ltb-true, eq-eqb, ne-eqb, eqb-true}
 use Rattle.units.specs.Units.{scaleMin, scaleMax}
-use Rattle.tables.specs.Block.{blockLength, maxTrains, maxChoices, maxPairs, maxCost, maxParts, constantPlace, sizePlace, firstPlace, secondPlace, entriesOfPair, loadedChoicesFrom, heldChoicesFrom, loadedEntriesFrom, heldEntriesFrom, loadedChoicePlace, heldChoicePlace, loadedEntryPlace, heldEntryPlace, at, nat, figure, trains, scale, pairs, constant, size, first, second}
+use Rattle.tables.specs.Block.{blockLength, maxTrains, maxChoices, maxPairs, maxCost, maxParts, constantPlace, sizePlace, firstPlace, secondPlace, entriesOfPair, loadedChoicesFrom, heldChoicesFrom, loadedEntriesFrom, heldEntriesFrom, loadedChoicePlace, heldChoicePlace, loadedEntryPlace, heldEntryPlace, at, nat, figure, trains, scale, pairs, constant, size, first, second, heldChoice, heldEntry}
 use Rattle.tables.specs.WellFormed.{Limits, from-to, within, usedIf, choiceUsed, entryUsed, headLimits, limitsAt, placesRight, before, follows, pairRight, pairsRight, fresh, holdsStudy, wellFormed, Study}
 use Rattle.tables.proofs.Range.{both-true, all-true, all-intro, pass-all}
 use Rattle.tables.proofs.Limits.{Within, within-figure, within-pos, choice-used, entry-used, limits-head, limits-size, limits-first, limits-second, limits-loaded-choices, limits-held-choices, limits-loaded-entries, limits-held-entries, shape-limits}
@@ -96,6 +96,16 @@ module _ {b : List ℤ} (s : Study b) where
 
   pub size-high : (i : ℕ) → i < maxTrains → size b i ≤ maxChoices
   size-high i h = at-most (ltb i (trains b)) 1 maxChoices (sizePlace i) (omega arith) (limits-size b i h)
+
+  pub held-choice-high : (i a : ℕ) → i < maxTrains → a < maxChoices → heldChoice b i a ≤ maxParts
+  held-choice-high i a h q =
+      let p = maxChoices * i + a in
+      at-most (choiceUsed b p) 0 maxParts (heldChoicePlace i a) (omega arith) (limits-held-choices b p (omega arith))
+
+  pub held-entry-high : (k a c : ℕ) → k < maxPairs → a < maxChoices → c < maxChoices → heldEntry b k a c ≤ maxParts
+  held-entry-high k a c h p q =
+      let i = entriesOfPair * k + (maxChoices * a + c) in
+      at-most (entryUsed b i) 0 maxParts (heldEntryPlace k a c) (omega arith) (limits-held-entries b i)
 
   pub first-high : (k : ℕ) → k < maxPairs → first b k < maxTrains
   first-high k h = omega (arith, at-most (ltb k (pairs b)) 0 (maxTrains - 1) (firstPlace k) (omega arith) (limits-first b k h))

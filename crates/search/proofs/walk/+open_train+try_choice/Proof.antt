@@ -11,11 +11,12 @@ use borrow.Fn.Kinds.{In}
 use borrow.Fn.PlainCycle.{Measures, is, falls, and}
 use Rattle.tables.specs.Block.{trains, size}
 use Rattle.tables.proofs.Study.{trains-range, size-range}
-use Rattle.search.specs.Table.{sizesFrom, trainsPlace, beginOf}
-use Rattle.search.specs.Held.{walkOf, Alike, Steady, At, comesTo, choicesFrom, Sums}
+use Rattle.rows.specs.Sums.{Steady, Sums}
+use Rattle.rows.specs.Table.{sizesFrom, trainsPlace, beginOf}
+use Rattle.search.specs.Held.{walkOf, Alike, At, comesTo, choicesFrom}
 use Rattle.search.proofs.Tries.{none-left}
 use Rattle.search.proofs.Alike.{alike-refl, alike-trans, alike-less, alike-set}
-use Rattle.search.proofs.Rows.{begin-next, steady-refl, steady-trans, steady-less}
+use Rattle.rows.proofs.Rows.{begin-next, steady-refl, steady-trans, steady-less}
 use Rattle.search.proofs.Held.{held-out, held-dropped, held-whole, held-opens, trying-low, trying-at, tries-next, at-sums, at-room, at-place, carrying-at}
 use Rattle.search.proofs.walk.open_train.Reads as open-train
 use Rattle.search.proofs.walk.open_train.Kinds as open-train-kinds
@@ -23,8 +24,8 @@ use Rattle.search.proofs.walk.+open_train+try_choice.Lts-open_train as 
 use Rattle.search.proofs.walk.try_choice.Reads as try-choice
 use Rattle.search.proofs.walk.try_choice.Kinds as try-choice-kinds
 use Rattle.search.proofs.walk.+open_train+try_choice.Lts-try_choice as try-choice-lts
-use Rattle.search.proofs.sums.carry.Reads as carry-reads
-use Rattle.search.proofs.sums.row_from.Reads as row-from-reads
+use Rattle.rows.proofs.sums.carry.Reads as carry-reads
+use Rattle.rows.proofs.sums.row_from.Reads as row-from-reads
 use Rattle.search.proofs.walk.+open_train+try_choice.{statement}
 use Rattle.search.proofs.walk.+open_train+try_choice.Tie.{close}
 
