@@ -38,7 +38,7 @@ pub fn certify(block: &[i64], whole: u64, weights: &[u64]) -> Certificate
     if !pairs_match(block, weights) {
         return Certificate::Unbalanced;
     }
-    let floor = whole * block::constant(block).0;
+    let floor = whole * block::constant(block).number();
     let choices = trains_weighted(block, weights);
     let entries = pairs_weighted(block, weights);
     let weighted = floor + choices + entries;
@@ -64,7 +64,7 @@ fn run_sum(weights: &[u64], from: usize, step: usize, count: usize) -> u64
     sum
 }
 
-// The sum of `count` weights from `from` on, each times the number at its place of the block, from `place` on.
+// The sum of `count` weights from `from` on, each times the figure in parts at its place of the block, from `place` on.
 fn run_weighted(weights: &[u64], from: usize, b: &[i64], place: usize, count: usize) -> u64
     requires { ⌜ Light (now weights) from (now b) place count ⌝ }
     ensures { λ r. ⌜ r ≡ runWeighted (now (weights .entry)) from (now (b .entry)) place count ⌝ }
@@ -72,7 +72,7 @@ fn run_weighted(weights: &[u64], from: usize, b: &[i64], place: usize, count: us
     let mut sum = 0;
     let mut k = 0;
     while k < count {
-        sum += weights[from + k] * places::get(b, place + k);
+        sum += weights[from + k] * places::parts(b, place + k).number();
         k += 1;
     }
     sum

@@ -66,7 +66,7 @@ module _ (l : List ℕ) (b : List ℤ) where
   either-requested : (q : Request) → Either b (requested q l b)
   unfolding requested
   either-requested (Load q) = inl (bound-accepted 1 (loadedBlock (numbersOf l)) (omega arith))
-  either-requested (Add q) = either-operated 2 (addOutcome (q .train) (q .choice) (q .points) b) b (addBlock (q .train) (q .choice) (q .points) b) (omega arith)
+  either-requested (Add q) = either-operated 2 (addOutcome (q .train) (q .choice) (q .points .0) b) b (addBlock (q .train) (q .choice) (q .points .0) b) (omega arith)
   either-requested (Shift q) =
       let lifts = signedRunOf l (q .lifts .at) moveWidth (q .lifts .count) in
       let moves = signedRunOf l (q .moves .at) moveWidth (q .moves .count) in

@@ -14,7 +14,7 @@ use Rattle.certificates.specs.declared.certify.Ceiling.{Ceiling}
 use Rattle.frames.specs.Fields.{field, fieldDigits}
 use Rattle.frames.proofs.RoundTrip.{field-after, digits-append, digits-length, field-here}
 use Rattle.lines.specs.declared.refusal.Refusal.{Refusal}
-use Rattle.lines.specs.declared.refusal.Refusal.the-variants.{Characters, TooLong, NoKind, FreshBlock, Fields, Range, Cost, Pair, Absent, CostAbove, Move, PartsOutside, Whole, Sums, Budget, Malformed, SmallBuffer}
+use Rattle.lines.specs.declared.refusal.Refusal.the-variants.{Characters, TooLong, NoKind, FreshBlock, Fields, Range, Cost, Pair, Absent, CostAbove, Move, PartsOutside, Whole, Sums, Budget, Malformed}
 use Rattle.lines.specs.Refusals.{refusalNumber}
 use Rattle.search.specs.declared.answer.Found.{Found}
 use Rattle.replies.specs.Replies.{refusalByte, refusalReply, replyKind, figureWidth, boundOf, boundReply, flag, certifyReply, planDigits, shownCost, shownChoice, searchReply}
@@ -70,7 +70,6 @@ number-low Whole = omega arith
 number-low Sums = omega arith
 number-low Budget = omega arith
 number-low Malformed = omega arith
-number-low SmallBuffer = omega arith
 
 pub refusal-refused : (r : Refusal) → accepted (refusalReply r) ≡ false
 unfolding refusalReply

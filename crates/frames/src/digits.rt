@@ -23,7 +23,10 @@ pub fn digit_of(v: u8) -> u8
     requires { ⌜ v < noDigit ⌝ }
     ensures { λ r. ⌜ r ≡ digitOf v ⌝ }
 {
-    if v <= 9 { v + 48 } else { v + 55 }
+    match v {
+        0..=9 => v + 48,
+        _ => v + 55,
+    }
 }
 
 // Byte i of a line.

@@ -5,7 +5,7 @@ use crate::digits;
 
 // A line of whole bytes.
 pub struct Frame {
-    pub bytes: usize,
+    bytes: usize,
 }
 
 // What the constructor of a frame answers.
@@ -40,6 +40,13 @@ impl Frame {
         } else {
             NewFrame::Broken
         }
+    }
+
+    // How many bytes the line has.
+    pub fn bytes(self) -> usize
+        ensures { λ r. ⌜ r ≡ self .bytes ⌝ }
+    {
+        self.bytes
     }
 }
 

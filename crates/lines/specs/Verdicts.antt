@@ -4,7 +4,7 @@ use mathlib.Core.List.{List}
 use Prim.Native.Nat.{ℕ, zero, suc, _+_, _*_, _-_, _<_, _≤_}
 use lib.Dec.{leb, ltb, eqb}
 use lib.IntN.{natAbs}
-use Rattle.units.specs.Units.{scaleMin, scaleMax}
+use Rattle.units.specs.Units.{scaleMin, scaleMax, theScale}
 use Rattle.tables.specs.Block.{maxTrains, maxChoices, maxPairs, maxCost}
 use Rattle.tables.specs.WellFormed.{before}
 use Rattle.frames.specs.Digits.{bytes}
@@ -108,4 +108,4 @@ pub record Sized (l : List ℕ) : Type 0 where
 
 abbrev pub loadRequest : List ℕ → Request
 loadRequest l =
-    Load (record { scale = loadScale l; sizes = run sizesAt (loadTrains l); choices = run (choicesAt l) (choiceCount l); pairs = run (pairCountAt l + 1) (loadPairs l) })
+    Load (record { scale = theScale (loadScale l); sizes = run sizesAt (loadTrains l); choices = run (choicesAt l) (choiceCount l); pairs = run (pairCountAt l + 1) (loadPairs l) })

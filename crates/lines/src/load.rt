@@ -2,6 +2,7 @@
 ghost use mathlib.Core.Path.{_≡_};
 ghost use Prim.Native.Nat.{_+_, _*_, _-_, _<_, _≤_, _^_};
 ghost use lib.ListN.{length};
+ghost use Rattle.units.specs.Units.{theScale};
 ghost use Rattle.tables.specs.Block.{maxTrains, maxChoices, maxPairs, maxCost, entriesOfPair};
 ghost use Rattle.tables.specs.Sum.{sum};
 ghost use Rattle.frames.specs.Digits.{bytes};
@@ -10,9 +11,11 @@ ghost use Rattle.frames.specs.Frames.{Framed};
 ghost use Rattle.lines.specs.declared.refusal.Refusal.the-variants.{Range, Cost};
 ghost use Rattle.lines.specs.declared.request.Rule.the-variants.{Between};
 ghost use Rattle.lines.specs.declared.request.Verdict.the-variants.{Fine};
-ghost use Rattle.lines.specs.Layout.{costWidth, sizesAt, loadTrains, loadSize, entryCount, pairAt};
+ghost use Rattle.lines.specs.declared.request.Line.the-variants.{Asked};
+ghost use Rattle.lines.specs.Layout.{costWidth, sizesAt, loadTrains, loadScale, loadSize, entryCount, pairAt};
 ghost use Rattle.lines.specs.Verdicts.{Sized, runVerdict, pairOrdered, pairVerdict, headVerdict, restVerdict, loadVerdict, loadRequest};
 use crate::refusal::Refusal;
+use crate::request::Line;
 use crate::request::Load;
 use crate::request::Request;
 use crate::request::Rule;
@@ -22,6 +25,7 @@ use crate::verdict;
 use frames::fields;
 use tables::block::Block;
 use tables::well_formed;
+use units::NewScale;
 use units::Scale;
 
 // n and s.
@@ -77,7 +81,7 @@ fn costs_verdict(line: &[u8], bytes: usize, at: usize, count: usize) -> Verdict
         at,
         Load::COST_WIDTH,
         count,
-        Rule::Between(0, Block::COST),
+        Rule::cost(),
         Refusal::Cost,
     )
 }
@@ -206,9 +210,9 @@ pub fn load_verdict(line: &[u8], bytes: usize) -> Verdict
     rest_verdict(line, bytes, at + 1, fields::field(line, at, 1) as usize)
 }
 
-// What a load asks, once its fields were judged fine.
-pub fn request(line: &[u8], bytes: usize) -> Request
-    requires { ⌜ Framed (now line) bytes × (loadVerdict (now line) ≡ Fine) ⌝ }
+// What a load of this scale asks, once its fields were judged fine.
+fn request(line: &[u8], bytes: usize, scale: Scale) -> Request
+    requires { ⌜ Framed (now line) bytes × (loadVerdict (now line) ≡ Fine) × (scale ≡ theScale (loadScale (now line))) ⌝ }
     ensures { λ r. ⌜ r ≡ loadRequest (now (line .entry)) ⌝ }
 {
     let n = fields::field(line, 1, 1) as usize;
@@ -216,7 +220,7 @@ pub fn request(line: &[u8], bytes: usize) -> Request
     let choices = Load::SIZES_AT + n;
     let pairs = choices + Load::COST_WIDTH * count;
     Request::Load(Load {
-        scale: fields::field(line, 2, 2),
+        scale,
         sizes: Run {
             at: Load::SIZES_AT,
             count: n,
@@ -227,4 +231,15 @@ pub fn request(line: &[u8], bytes: usize) -> Request
             count: fields::field(line, pairs, 1) as usize,
         },
     })
+}
+
+// The load that a line asks, once its fields were judged fine: its scale is made by the scale's own constructor.
+pub fn asked(line: &[u8], bytes: usize) -> Line
+    requires { ⌜ Framed (now line) bytes × (loadVerdict (now line) ≡ Fine) ⌝ }
+    ensures { λ r. ⌜ r ≡ Asked (loadRequest (now (line .entry))) ⌝ }
+{
+    match Scale::new(fields::field(line, 2, 2)) {
+        NewScale::Outside => Line::Refused(Refusal::Range),
+        NewScale::Within(scale) => Line::Asked(request(line, bytes, scale)),
+    }
 }

@@ -34,8 +34,6 @@ pub enum Refusal {
     Budget,
     // A block of another length, or not well formed.
     Malformed,
-    // A reply buffer that is too small.
-    SmallBuffer,
 }
 
 // Document 01's number of a refusal.
@@ -59,6 +57,5 @@ pub fn number(r: Refusal) -> u8
         Refusal::Sums => 14,
         Refusal::Budget => 15,
         Refusal::Malformed => 16,
-        Refusal::SmallBuffer => 17,
     }
 }

@@ -1,7 +1,12 @@
 // Document 01, 'Lines': a read line is either a refusal or one of six requests, each with its own fields. Offsets, in bytes, stand for long fields.
 ghost use mathlib.Core.Path.{_≡_};
+ghost use Rattle.tables.specs.Block.{maxCost};
+ghost use Rattle.lines.specs.declared.request.Rule.the-variants.{Between};
 ghost use Rattle.lines.specs.Verdicts.{isFine};
 use crate::refusal::Refusal;
+use tables::block::Block;
+use units::Points;
+use units::Scale;
 
 // A run of fields of equal width: the byte where it begins, and how many there are.
 pub struct Run {
@@ -10,7 +15,7 @@ pub struct Run {
 }
 
 pub struct Load {
-    pub scale: u64,
+    pub scale: Scale,
     pub sizes: Run,
     pub choices: Run,
     // The first pair's place and the number of pairs; a pair is its two trains and then its costs.
@@ -27,7 +32,7 @@ impl Load {
 pub struct Add {
     pub train: usize,
     pub choice: usize,
-    pub points: u64,
+    pub points: Points,
 }
 
 pub struct Shift {
@@ -89,6 +94,15 @@ pub enum Rule {
     Between(u64, u64),
     // At most so far from 0, as two's complement.
     Around(u64),
+}
+
+impl Rule {
+    // 'cost or added points over 1,000,000' are declined.
+    pub fn cost() -> Rule
+        ensures { λ r. ⌜ r ≡ Between 0 maxCost ⌝ }
+    {
+        Rule::Between(0, Block::COST.number())
+    }
 }
 
 // Whether the fields so far are fine, or the first reason to decline the line.

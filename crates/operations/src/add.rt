@@ -4,10 +4,10 @@ ghost use Prim.Native.Nat.{_<_, _≤_};
 ghost use Rattle.tables.specs.Block.{maxCost, trains, size};
 ghost use Rattle.tables.specs.WellFormed.{Study};
 ghost use Rattle.operations.specs.Add.{addOutcome, addBlock};
+use crate::held;
 use crate::outcome::Outcome;
 use tables::block;
 use tables::block::Block;
-use units::Parts;
 use units::Points;
 
 // Adds points to choice a of train i: to its loaded cost, and in parts to its held cost.
@@ -16,16 +16,16 @@ pub fn add(block: &mut [i64], i: usize, a: usize, points: Points) -> Outcome
     ensures { λ r. ⌜ r ≡ addOutcome i a (points .0) (now (block .entry)) ⌝ }
     ensures { λ r. ⌜ now (block .exit) ≡ addBlock i a (points .0) (now (block .entry)) ⌝ }
 {
-    let loaded = block::loaded_choice(block, i, a).0 + points.0;
-    if Block::COST < loaded {
+    let loaded = block::loaded_choice(block, i, a).plus(points);
+    if !loaded.at_most(Block::COST) {
         return Outcome::CostAbove;
     }
-    let parts = block::scale(block).parts(points);
-    let held = block::held_choice(block, i, a).0 + parts.0;
-    if Block::PARTS < held {
+    let parts = held::in_parts(block::scale(block), points);
+    let total = block::held_choice(block, i, a).plus(parts);
+    if !total.at_most(Block::PARTS) {
         return Outcome::PartsOutside;
     }
-    block::put_loaded_choice(block, i, a, Points(loaded));
-    block::put_held_choice(block, i, a, Parts(held));
+    block::put_loaded_choice(block, i, a, loaded);
+    block::put_held_choice(block, i, a, total);
     Outcome::Done
 }

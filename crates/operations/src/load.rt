@@ -8,6 +8,7 @@ ghost use Rattle.tables.specs.Block.{blockLength, maxTrains, maxChoices, maxPai
 ghost use Rattle.tables.specs.WellFormed.{freshBlock};
 ghost use Rattle.tables.specs.Numbers.{numbers, choiceStart, entryStart, InRange};
 ghost use Rattle.operations.specs.Load.{SizesIn, PairsIn, CostsIn, headLoaded, sizesLoaded, pairsLoaded, runLoaded, choicesLoaded, pairLoaded, entriesLoaded, loadedBlock};
+use crate::held;
 use tables::block;
 use tables::block::Block;
 use tables::places;
@@ -78,10 +79,10 @@ fn load_run(
     let mut a = 0;
     while a < count {
         let cost = costs[start + a];
-        let points = Points(cost);
-        let parts = scale.parts(points);
-        places::put(b, loaded + a, points.0);
-        places::put(b, held + a, parts.0);
+        let points = Points::of(cost);
+        let parts = held::in_parts(scale, points);
+        places::put_points(b, loaded + a, points);
+        places::put_parts(b, held + a, parts);
         a += 1;
     }
 }

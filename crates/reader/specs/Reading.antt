@@ -4,6 +4,7 @@ use mathlib.Core.List.{List}
 use Prim.Native.Nat.{ℕ, _+_, _*_, _-_}
 use lib.Dec.{leb, eqb}
 use lib.IntN.{ℤ}
+use Rattle.units.specs.Units.{thePoints}
 use Rattle.tables.specs.Block.{maxCost, trains, pairs, size}
 use Rattle.tables.specs.Runs.{choicesBefore, entriesBefore, movesBefore}
 use Rattle.tables.specs.Ranges.{maxMove, maxWhole, maxBudget}
@@ -33,7 +34,7 @@ addVerdict l b =
     (then (fieldVerdict l 3 costWidth (Between 0 maxCost) Cost) (endVerdict (bytes l) 6)))
 
 abbrev pub addRequest : List ℕ → Request
-addRequest l = Add (record { train = addTrain l; choice = addChoice l; points = addPoints l })
+addRequest l = Add (record { train = addTrain l; choice = addChoice l; points = thePoints (addPoints l) })
 
 -- how many choices the block's trains have, how many entries its pairs, and how many moves a shift has for its pairs
 abbrev pub heldChoices : List ℤ → ℕ

@@ -3,7 +3,7 @@ ghost use mathlib.Core.Path.{_≡_};
 ghost use mathlib.Core.Bool.{true};
 ghost use Prim.Native.Nat.{_-_, _<_, _≤_, _^_};
 ghost use Rattle.tables.specs.Block.{maxTrains};
-ghost use Rattle.tables.specs.WellFormed.{Study, wellFormed};
+ghost use Rattle.tables.specs.WellFormed.{Study, fresh, wellFormed};
 ghost use Rattle.frames.specs.Frames.{Framed};
 ghost use Rattle.lines.specs.declared.refusal.Refusal.the-variants.{Absent};
 ghost use Rattle.lines.specs.declared.request.Rule.the-variants.{Between};
@@ -28,41 +28,41 @@ use lines::request::Verdict;
 use lines::verdict;
 use tables::block;
 use tables::block::Block;
-use tables::well_formed;
+use units::Points;
 
 mod counts;
 
-// What the line asks, or why it is declined.
-pub fn read(line: &[u8], block: &[i64]) -> Line
-    requires { ⌜ wellFormed (now block) ≡ true ⌝ }
+// What the line asks, or why it is declined. The block is known to be well formed, and whether it is fresh.
+pub fn read(line: &[u8], block: &[i64], known: Block) -> Line
+    requires { ⌜ (wellFormed (now block) ≡ true) × (known .fresh ≡ fresh (now block)) ⌝ }
     ensures { λ r. ⌜ r ≡ lineOf (now (line .entry)) (now (block .entry)) ⌝ }
 {
     match Frame::new(line) {
         NewFrame::Long => Line::Refused(Refusal::TooLong),
         NewFrame::Broken => Line::Refused(Refusal::Characters),
-        NewFrame::Within(frame) => read_kind(line, frame.bytes, block),
+        NewFrame::Within(frame) => read_kind(line, frame.bytes(), block, known),
     }
 }
 
 // The first byte is the kind.
-fn read_kind(line: &[u8], bytes: usize, block: &[i64]) -> Line
-    requires { ⌜ Framed (now line) bytes × (wellFormed (now block) ≡ true) ⌝ }
+fn read_kind(line: &[u8], bytes: usize, block: &[i64], known: Block) -> Line
+    requires { ⌜ Framed (now line) bytes × (wellFormed (now block) ≡ true) × (known .fresh ≡ fresh (now block)) ⌝ }
     ensures { λ r. ⌜ r ≡ kindLine (now (line .entry)) (now (block .entry)) ⌝ }
 {
     let kind = fields::field(line, 0, 1);
     match kind {
         1 => read_load(line, bytes),
-        2..=6 => read_study(line, bytes, kind, block),
+        2..=6 => read_study(line, bytes, kind, block, known),
         _ => Line::Refused(Refusal::NoKind),
     }
 }
 
 // The kinds that need a loaded study.
-fn read_study(line: &[u8], bytes: usize, kind: u64, block: &[i64]) -> Line
-    requires { ⌜ Framed (now line) bytes × (wellFormed (now block) ≡ true) × (kind ≡ kindOf (now line)) ⌝ }
+fn read_study(line: &[u8], bytes: usize, kind: u64, block: &[i64], known: Block) -> Line
+    requires { ⌜ Framed (now line) bytes × (wellFormed (now block) ≡ true) × (kind ≡ kindOf (now line)) × (known .fresh ≡ fresh (now block)) ⌝ }
     ensures { λ r. ⌜ r ≡ studyLine (now (line .entry)) (now (block .entry)) ⌝ }
 {
-    if well_formed::fresh(block) {
+    if known.is_fresh() {
         return Line::Refused(Refusal::FreshBlock);
     }
     match kind {
@@ -81,7 +81,7 @@ fn read_load(line: &[u8], bytes: usize) -> Line
 {
     match load::load_verdict(line, bytes) {
         Verdict::Declined(r) => Line::Refused(r),
-        Verdict::Fine => Line::Asked(load::request(line, bytes)),
+        Verdict::Fine => load::asked(line, bytes),
     }
 }
 
@@ -119,7 +119,7 @@ fn add_verdict(line: &[u8], bytes: usize, block: &[i64]) -> Verdict
         bytes,
         3,
         Load::COST_WIDTH,
-        Rule::Between(0, Block::COST),
+        Rule::cost(),
         Refusal::Cost,
     );
     if !points.is_fine() {
@@ -138,7 +138,7 @@ fn read_add(line: &[u8], bytes: usize, block: &[i64]) -> Line
         Verdict::Fine => Line::Asked(Request::Add(Add {
             train: fields::field(line, 1, 1) as usize,
             choice: fields::field(line, 2, 1) as usize,
-            points: fields::field(line, 3, Load::COST_WIDTH),
+            points: Points::of(fields::field(line, 3, Load::COST_WIDTH)),
         })),
     }
 }

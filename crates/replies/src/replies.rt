@@ -43,8 +43,8 @@ pub fn write_bound(reply: &mut [u8], kind: u64, block: &[i64]) -> usize
     let constant = block::constant(block);
     let bound = block::scale(block).bound(constant);
     let kind_end = write::put_field(reply, 0, 1, REPLY_KIND + kind);
-    let constant_end = write::put_field(reply, kind_end, FIGURE_WIDTH, constant.0);
-    write::put_field(reply, constant_end, FIGURE_WIDTH, bound.0)
+    let constant_end = write::put_field(reply, kind_end, FIGURE_WIDTH, constant.number());
+    write::put_field(reply, constant_end, FIGURE_WIDTH, bound.number())
 }
 
 // A byte that says yes or no.
@@ -69,7 +69,8 @@ pub fn write_certify(reply: &mut [u8], whole: u64, c: Ceiling) -> usize
 fn shown_cost(f: Found) -> u64
     ensures { λ r. ⌜ r ≡ shownCost f ⌝ }
 {
-    if f.known { f.cost.0 } else { NO_COST }
+    let cost = f.cost;
+    if f.known { cost.number() } else { NO_COST }
 }
 
 // The choice of train i that a search shows.

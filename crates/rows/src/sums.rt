@@ -21,10 +21,11 @@ pub fn row_from(sums: &[u64; LENGTH], from: usize, partial: Parts) -> [u64; Bloc
     requires { ⌜ ((a : ℕ) → a < maxChoices → partial .0 + getD (now sums) (from + a) 0 < 2 ^ 63) ⌝ }
     ensures { λ r. ⌜ Sums (λ a. partial .0 + getD (now (sums .entry)) (from + a) 0) r ⌝ }
 {
+    let so_far = partial.number();
     let mut row = [0u64; Block::CHOICES];
     let mut a = 0;
     while a < Block::CHOICES {
-        row[a] = partial.0 + sums[from + a];
+        row[a] = so_far + sums[from + a];
         a += 1;
     }
     row

@@ -53,7 +53,7 @@ impl Walk {
             count: budget - Self::tries(left),
             spent: left == 0,
             found: best < Self::UNKNOWN,
-            best: Parts(Self::total(best)),
+            best: Parts::of(Self::total(best)),
             plan,
         }
     }
@@ -78,8 +78,8 @@ pub fn open_train(
     let mut rest = left;
     let mut a = 0;
     while a < d {
-        let sum = row[a];
-        rest = try_choice(table, sums, chosen, plan, best, t, a, Parts(sum), rest);
+        let total = Parts::of(row[a]);
+        rest = try_choice(table, sums, chosen, plan, best, t, a, total, rest);
         a += 1;
     }
     rest
@@ -104,13 +104,14 @@ fn try_choice(
         return 0;
     }
     let rest = left - 1;
-    if *best <= total.0 {
+    let parts = total.number();
+    if *best <= parts {
         return rest;
     }
     chosen[t] = a as u8;
     let u = t + 1;
     if u == table[table::TRAINS_PLACE] as usize {
-        *best = total.0;
+        *best = parts;
         *plan = *chosen;
         return rest;
     }

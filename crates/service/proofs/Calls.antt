@@ -74,7 +74,7 @@ certified-short whole (Balanced c) b = omega (arith, certify-length whole c)
 requested-short : (l : List ℕ) (b : List ℤ) (d : List ℕ) (q : Request) → Asks l b q d → length (requested q l b .reply) ≤ minBuffer
 unfolding requested
 requested-short l b d (Load q) a = omega (arith, bound-length 1 (loadedBlock (numbersOf l)))
-requested-short l b d (Add q) a = operated-short 2 (addOutcome (q .train) (q .choice) (q .points) b) b (addBlock (q .train) (q .choice) (q .points) b)
+requested-short l b d (Add q) a = operated-short 2 (addOutcome (q .train) (q .choice) (q .points .0) b) b (addBlock (q .train) (q .choice) (q .points .0) b)
 requested-short l b d (Shift q) a =
     let lifts = signedRunOf l (q .lifts .at) moveWidth (q .lifts .count) in
     let moves = signedRunOf l (q .moves .at) moveWidth (q .moves .count) in

@@ -77,7 +77,7 @@ load-answers l b q e f w = record { block = f ∙ ap loadedBlock e; reply = rw (
 -- the other requests
 
 pub add-answers : (l : List ℕ) (b : List ℤ) (q : Add) {left : List ℤ} {buffer after : List ℕ} {n : ℕ}
-    → Answers (operated 2 (addOutcome (q .train) (q .choice) (q .points) b) b (addBlock (q .train) (q .choice) (q .points) b)) buffer left after n
+    → Answers (operated 2 (addOutcome (q .train) (q .choice) (q .points .0) b) b (addBlock (q .train) (q .choice) (q .points .0) b)) buffer left after n
     → Answers (requested (add-of q) l b) buffer left after n
 unfolding requested
 add-answers l b q a = a

@@ -14,7 +14,7 @@ use lib.IntN.{ℤ, pos, negsuc, natAbs}
 use lib.ListN.{length, take, replicate, length-replicate}
 use lib.Seq.{length-take-le}
 use lib.Signed.{mag}
-use Rattle.units.specs.Units.{scaleMin, scaleMax}
+use Rattle.units.specs.Units.{thePoints, theScale}
 use Rattle.tables.specs.Block.{blockLength, maxTrains, maxChoices, maxPairs, entriesOfPair, trains}
 use Rattle.tables.specs.Numbers.{Numbers, InRange, numbers}
 use Rattle.tables.specs.Ranges.{maxMove, maxWhole, maxBudget}
@@ -69,7 +69,7 @@ module _ {l : List ℕ} {b : List ℤ} {q : Request} {buffer : List ℕ} (a : As
 pub add-ready : {l : List ℕ} {b : List ℤ} {q : Add} {buffer : List ℕ} → Asks l b (add-of q) buffer → Adds b q
 add-ready {l} {b} {q} a =
     let m = makes a in
-    let e : q ≡ record { train = addTrain l; choice = addChoice l; points = addPoints l } = cc in
+    let e : q ≡ record { train = addTrain l; choice = addChoice l; points = thePoints (addPoints l) } = cc in
     let s = study-of b (a .right) (m .2) in
     let f = add-fine l b (m .1) in
     rw e (record { study = s; train = add-there s f .0; choice = add-there s f .1; points = f .points })
@@ -187,7 +187,7 @@ pub record LoadReady (l : List ℕ) (q : Load) : Type 0 where
   pub fine : loadVerdict l ≡ Fine
   pub digits : framed l ≡ true
   pub short : length l ≤ maxCharacters
-  pub scale : (q .scale ≡ loadScale l) × (scaleMin ≤ q .scale) × (q .scale ≤ scaleMax)
+  pub scale : q .scale .0 ≡ loadScale l
   pub sizes-inside : 2 * (q .sizes .at + 1 * q .sizes .count) ≤ length l
   pub choices-inside : 2 * (q .choices .at + costWidth * q .choices .count) ≤ length l
   pub trains : (q .sizes .at ≡ sizesAt) × (q .sizes .count ≡ loadTrains l) × (loadTrains l ≤ maxTrains)
@@ -199,7 +199,7 @@ pub record LoadReady (l : List ℕ) (q : Load) : Type 0 where
 pub load-ready : {l : List ℕ} {b : List ℤ} {q : Load} {buffer : List ℕ} → Asks l b (load-of q) buffer → LoadReady l q
 load-ready {l} {b} {q} a =
     let m = makes a in
-    let e : q ≡ record { scale = loadScale l; sizes = run sizesAt (loadTrains l); choices = run (choicesAt l) (choiceCount l); pairs = run (pairCountAt l + 1) (loadPairs l) } = cc in
+    let e : q ≡ record { scale = theScale (loadScale l); sizes = run sizesAt (loadTrains l); choices = run (choicesAt l) (choiceCount l); pairs = run (pairCountAt l + 1) (loadPairs l) } = cc in
     let f = load-fine l (m .1) in
     let h = head-fine l (f .head) in
     let w = load-room l (m .1) in
@@ -208,7 +208,7 @@ load-ready {l} {b} {q} a =
       fine = m .1;
       digits = frame a .digits;
       short = frame a .short;
-      scale = (refl, h .scale .0, h .scale .1);
+      scale = refl;
       sizes-inside = omega (arith, w .0, pair-start l, even a);
       choices-inside = omega (arith, w .0, pair-start l, even a);
       trains = (refl, refl, h .trains .1);
@@ -223,13 +223,13 @@ pub sizes-run : (l : List ℕ) → runOf l sizesAt 1 (loadTrains l) ≡ listOf (
 sizes-run l = simp one-mul
 
 -- the lists that were decoded are the numbers of the load
-pub load-numbers : {l : List ℕ} {q : Load} → LoadReady l q → {s n m : ℕ} {sizes choices firsts seconds entries : List ℕ} → s ≡ q .scale → n ≡ q .sizes .count → m ≡ q .choices .count
+pub load-numbers : {l : List ℕ} {q : Load} → LoadReady l q → {s n m : ℕ} {sizes choices firsts seconds entries : List ℕ} → s ≡ q .scale .0 → n ≡ q .sizes .count → m ≡ q .choices .count
     → sizes ≡ runOf l (q .sizes .at) 1 n → choices ≡ runOf l (q .choices .at) costWidth m
     → firsts ≡ listOf (loadPairs l) (loadFirst l) → seconds ≡ listOf (loadPairs l) (loadSecond l) → entries ≡ entriesOf l (loadPairs l)
     → numbers s sizes choices firsts seconds entries ≡ numbersOf l
 unfolding numbersOf
 load-numbers {l} {q} r es en em sizes choices firsts seconds entries =
-    rw (sizes, choices, firsts, seconds, entries, es, en, em, r .scale .0, r .trains .0, r .trains .1, r .choices .0, r .choices .1, sizes-run l)
+    rw (sizes, choices, firsts, seconds, entries, es, en, em, r .scale, r .trains .0, r .trains .1, r .choices .0, r .choices .1, sizes-run l)
 
 -- what they make is a study
 pub loaded-study : {l : List ℕ} {q : Load} → LoadReady l q → {x : Numbers} → x ≡ numbersOf l → {b : List ℤ} → b ≡ loadedBlock x → Study b

@@ -56,7 +56,7 @@ certified whole (Balanced c) b = answered b (certifyReply whole c)
 -- what each request does, with the long fields read from the line
 unfoldable pub requested : Request → List ℕ → List ℤ → Answer
 requested (Load q) l b = answered (loadedBlock (numbersOf l)) (boundReply 1 (loadedBlock (numbersOf l)))
-requested (Add q) l b = operated 2 (addOutcome (q .train) (q .choice) (q .points) b) b (addBlock (q .train) (q .choice) (q .points) b)
+requested (Add q) l b = operated 2 (addOutcome (q .train) (q .choice) (q .points .0) b) b (addBlock (q .train) (q .choice) (q .points .0) b)
 requested (Shift q) l b =
     let lifts = signedRunOf l (q .lifts .at) moveWidth (q .lifts .count) in
     let moves = signedRunOf l (q .moves .at) moveWidth (q .moves .count) in

@@ -30,4 +30,4 @@ pub record Adds (b : List ℤ) (q : Add) : Type 0 where
   pub study : Study b
   pub train : q .train < trains b
   pub choice : q .choice < size b (q .train)
-  pub points : q .points ≤ maxCost
+  pub points : q .points .0 ≤ maxCost

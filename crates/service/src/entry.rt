@@ -6,7 +6,8 @@ use crate::requests;
 use lines::refusal::Refusal;
 use lines::request::Line;
 use replies::replies::write_refusal;
-use tables::well_formed;
+use tables::block::Block;
+use tables::well_formed::NewBlock;
 
 // The smallest reply buffer, in characters.
 pub const MIN_BUFFER: usize = 72;
@@ -18,12 +19,12 @@ pub fn respond(line: &[u8], block: &mut [i64], reply: &mut [u8]) -> usize
     if reply.len() < MIN_BUFFER {
         return 0;
     }
-    if !well_formed::well_formed(block) {
-        return write_refusal(reply, Refusal::Malformed);
-    }
-    match reader::read(line, block) {
-        Line::Refused(r) => write_refusal(reply, r),
-        Line::Asked(q) => requests::answer_request(line, block, reply, q),
+    match Block::new(block) {
+        NewBlock::Outside => write_refusal(reply, Refusal::Malformed),
+        NewBlock::Within(known) => match reader::read(line, block, known) {
+            Line::Refused(r) => write_refusal(reply, r),
+            Line::Asked(q) => requests::answer_request(line, block, reply, q),
+        },
     }
 }
 

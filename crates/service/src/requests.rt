@@ -38,8 +38,6 @@ use replies::replies::write_search;
 use search::answer;
 use tables::block;
 use tables::block::Block;
-use units::Points;
-use units::Scale;
 
 // The most choice costs of a load.
 const CHOICE_COSTS: usize = Block::TRAINS * Block::CHOICES;
@@ -65,9 +63,10 @@ fn write_outcome(reply: &mut [u8], kind: u64, outcome: Outcome, block: &[i64]) -
 // Adds points to a choice.
 fn answer_add(block: &mut [i64], reply: &mut [u8], q: Add) -> usize
     requires { ⌜ (minBuffer ≤ length (now reply)) × Adds (now block) q ⌝ }
-    ensures { λ r. ⌜ Answers (operated 2 (addOutcome (q .train) (q .choice) (q .points) (now (block .entry))) (now (block .entry)) (addBlock (q .train) (q .choice) (q .points) (now (block .entry)))) (now (reply .entry)) (now (block .exit)) (now (reply .exit)) r ⌝ }
+    ensures { λ r. ⌜ Answers (operated 2 (addOutcome (q .train) (q .choice) (q .points .0) (now (block .entry))) (now (block .entry)) (addBlock (q .train) (q .choice) (q .points .0) (now (block .entry)))) (now (reply .entry)) (now (block .exit)) (now (reply .exit)) r ⌝ }
 {
-    let outcome = add::add(block, q.train, q.choice, Points(q.points));
+    let points = q.points;
+    let outcome = add::add(block, q.train, q.choice, points);
     write_outcome(reply, 2, outcome, block)
 }
 
@@ -167,7 +166,7 @@ fn load_with(
     runs::decode(line, q.sizes.at, 1, sizes);
     runs::decode(line, q.choices.at, Load::COST_WIDTH, choices);
     decode::decode_pairs(line, q.pairs.at, firsts, seconds, entries);
-    let scale = Scale::known(q.scale);
+    let scale = q.scale;
     load::load(block, scale, sizes, choices, firsts, seconds, entries);
     write_bound(reply, 1, block)
 }

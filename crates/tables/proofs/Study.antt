@@ -1,6 +1,6 @@
 -- What the operations may use of a block that holds a study, and when a changed block still holds one. For every size.
 use mathlib.Core.Path.{_≡_, refl, sym, ap, _∙_}
-use mathlib.Core.Bool.{Bool, true, false, _&&_, _||_}
+use mathlib.Core.Bool.{Bool, true, false, cond, _&&_, _||_}
 use mathlib.Core.List.{List}
 use mathlib.Core.Logic.{_⊎_, inl, inr, ⊎-elim, dite, _≢_}
 use Prim.Native.Nat.{ℕ, zero, suc, _+_, _*_, _-_, _/_, _<_, _≤_}
@@ -12,8 +12,10 @@ use lib.ListN.{length, set, length-set}
 use lib.Seq.{getD-set-same, getD-set-other}
 use borrow.Author.Tests.{lt-ltb, ltb-true, eq-eqb, ne-eqb, eqb-true}
 use Rattle.units.specs.Units.{scaleMin, scaleMax}
+use Rattle.tables.specs.declared.block.Block.{Block}
+use Rattle.tables.specs.declared.well_formed.NewBlock.the-variants.{Within as within-block, Outside as outside-block}
 use Rattle.tables.specs.Block.{blockLength, maxTrains, maxChoices, maxPairs, maxCost, maxParts, constantPlace, sizePlace, firstPlace, secondPlace, entriesOfPair, loadedChoicesFrom, heldChoicesFrom, loadedEntriesFrom, heldEntriesFrom, loadedChoicePlace, heldChoicePlace, loadedEntryPlace, heldEntryPlace, at, nat, figure, trains, scale, pairs, constant, size, first, second, heldChoice, heldEntry}
-use Rattle.tables.specs.WellFormed.{Limits, from-to, within, usedIf, choiceUsed, entryUsed, headLimits, limitsAt, placesRight, before, follows, pairRight, pairsRight, fresh, holdsStudy, wellFormed, Study}
+use Rattle.tables.specs.WellFormed.{Limits, from-to, within, usedIf, choiceUsed, entryUsed, headLimits, limitsAt, placesRight, before, follows, pairRight, pairsRight, fresh, holdsStudy, wellFormed, newBlock, Study}
 use Rattle.tables.proofs.Range.{both-true, all-true, all-intro, pass-all}
 use Rattle.tables.proofs.Limits.{Within, within-figure, within-pos, choice-used, entry-used, limits-head, limits-size, limits-first, limits-second, limits-loaded-choices, limits-held-choices, limits-loaded-entries, limits-held-entries, shape-limits}
 
@@ -35,6 +37,21 @@ unfolding wellFormed
 study-of b e f =
     let g = both-true (eqb (length b) blockLength) (fresh b || holdsStudy b) e in
     holds-study b (eqb-true (length b) blockLength (g .0)) (rw f at (g .1))
+
+-- what the constructor of a block says: the numbers are well formed, and the block keeps whether they are fresh; or they are not
+pub new-block-within : (b : List ℤ) (k : Block) → newBlock b ≡ within-block k → (wellFormed b ≡ true) × (k .fresh ≡ fresh b)
+new-block-within b k e = go (wellFormed b) refl e
+  where
+    go : (t : Bool) → wellFormed b ≡ t → cond t (within-block (record { fresh = fresh b })) outside-block ≡ within-block k → (wellFormed b ≡ true) × (k .fresh ≡ fresh b)
+    go true p e = let h : record { fresh = fresh b } ≡ k = cc in (p, ap (λ (x : Block). x .fresh) (sym h))
+    go false p e = let z : _≡_ {A = ℕ} 0 1 = cc in absurd (omega arith)
+
+pub new-block-outside : (b : List ℤ) → newBlock b ≡ outside-block → wellFormed b ≡ false
+new-block-outside b e = go (wellFormed b) refl e
+  where
+    go : (t : Bool) → wellFormed b ≡ t → cond t (within-block (record { fresh = fresh b })) outside-block ≡ outside-block → wellFormed b ≡ false
+    go true p e = let z : _≡_ {A = ℕ} 0 1 = cc in absurd (omega arith)
+    go false p e = p
 
 -- and a block that holds a study is well formed
 pub study-holds : {b : List ℤ} → Study b → holdsStudy b ≡ true

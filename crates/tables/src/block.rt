@@ -4,7 +4,7 @@ ghost use Prim.Native.Nat.{_+_, _*_, _<_, _≤_, _^_};
 ghost use lib.IntN.{pos};
 ghost use lib.ListN.{length, set};
 ghost use Rattle.units.specs.Units.{scaleMin, scaleMax};
-ghost use Rattle.tables.specs.Block.{blockLength, entriesOfPair, maxTrains, maxChoices, maxPairs, trainsPlace, scalePlace, pairsPlace, constantPlace, sizePlace, firstPlace, secondPlace, choicePlace, entryPlace, figure, loadedChoicePlace, heldChoicePlace, loadedEntryPlace, heldEntryPlace, trains, scale, pairs, constant, size, first, second, loadedChoice, heldChoice, loadedEntry, heldEntry};
+ghost use Rattle.tables.specs.Block.{blockLength, entriesOfPair, maxTrains, maxChoices, maxPairs, trainsPlace, scalePlace, pairsPlace, sizePlace, firstPlace, secondPlace, choicePlace, entryPlace, figure, loadedChoicePlace, heldChoicePlace, trains, scale, pairs, constant, size, first, second, loadedChoice, heldChoice, loadedEntry, heldEntry};
 use crate::places;
 use units::Parts;
 use units::Points;
@@ -24,10 +24,10 @@ impl Block {
     pub const CHOICES: usize = 8;
     // The most pairs.
     pub const PAIRS: usize = 48;
-    // The highest loaded cost, in points.
-    pub const COST: u64 = 1000000;
-    // The highest held cost, and the highest constant, in parts: L.
-    pub const PARTS: u64 = 72000000000;
+    // The highest loaded cost.
+    pub const COST: Points = Points::HIGHEST;
+    // The highest held cost and the highest constant: L.
+    pub const PARTS: Parts = Parts::HIGHEST;
     // Where n stands.
     pub const TRAINS_PLACE: usize = 0;
     // Where s stands.
@@ -54,7 +54,7 @@ impl Block {
     pub const ENTRIES: usize = 64;
 
     // The block of numbers that are known to be well formed.
-    pub fn known(fresh: bool) -> Block
+    pub(crate) fn known(fresh: bool) -> Block
         ensures { λ r. ⌜ r .fresh ≡ fresh ⌝ }
     {
         Block { fresh }
@@ -82,38 +82,6 @@ pub fn entry_place(from: usize, k: usize, a: usize, c: usize) -> usize
     ensures { λ r. ⌜ r ≡ entryPlace from k a c ⌝ }
 {
     from + (Block::ENTRIES * k + Block::CHOICES * a + c)
-}
-
-// The choice's number in the table that begins at `from`.
-fn choice_at(b: &[i64], from: usize, i: usize, a: usize) -> u64
-    requires { ⌜ (length (now b) ≡ blockLength) × (from + maxTrains * maxChoices ≤ blockLength) × (i < maxTrains) × (a < maxChoices) ⌝ }
-    ensures { λ r. ⌜ r ≡ figure (now (b .entry)) (choicePlace from i a) ⌝ }
-{
-    places::get(b, choice_place(from, i, a))
-}
-
-// The number of a pair's two choices in the table that begins at `from`.
-fn entry_at(b: &[i64], from: usize, k: usize, a: usize, c: usize) -> u64
-    requires { ⌜ (length (now b) ≡ blockLength) × (from + maxPairs * entriesOfPair ≤ blockLength) × (k < maxPairs) × (a < maxChoices) × (c < maxChoices) ⌝ }
-    ensures { λ r. ⌜ r ≡ figure (now (b .entry)) (entryPlace from k a c) ⌝ }
-{
-    places::get(b, entry_place(from, k, a, c))
-}
-
-// Stores v at a choice's place in the table that begins at `from`.
-fn put_choice_at(b: &mut [i64], from: usize, i: usize, a: usize, v: u64)
-    requires { ⌜ (length (now b) ≡ blockLength) × (from + maxTrains * maxChoices ≤ blockLength) × (i < maxTrains) × (a < maxChoices) × (v < 2 ^ 63) ⌝ }
-    ensures { λ _. ⌜ now (b .exit) ≡ set (now (b .entry)) (choicePlace from i a) (pos v) ⌝ }
-{
-    places::put(b, choice_place(from, i, a), v);
-}
-
-// Stores v at the place of a pair's two choices in the table that begins at `from`.
-fn put_entry_at(b: &mut [i64], from: usize, k: usize, a: usize, c: usize, v: u64)
-    requires { ⌜ (length (now b) ≡ blockLength) × (from + maxPairs * entriesOfPair ≤ blockLength) × (k < maxPairs) × (a < maxChoices) × (c < maxChoices) × (v < 2 ^ 63) ⌝ }
-    ensures { λ _. ⌜ now (b .exit) ≡ set (now (b .entry)) (entryPlace from k a c) (pos v) ⌝ }
-{
-    places::put(b, entry_place(from, k, a, c), v);
 }
 
 // ---- readers
@@ -147,7 +115,7 @@ pub fn constant(b: &[i64]) -> Parts
     requires { ⌜ length (now b) ≡ blockLength ⌝ }
     ensures { λ r. ⌜ r .0 ≡ constant (now (b .entry)) ⌝ }
 {
-    Parts(places::get(b, Block::CONSTANT_PLACE))
+    places::parts(b, Block::CONSTANT_PLACE)
 }
 
 // The number of choices of train i.
@@ -179,7 +147,7 @@ pub fn loaded_choice(b: &[i64], i: usize, a: usize) -> Points
     requires { ⌜ (length (now b) ≡ blockLength) × (i < maxTrains) × (a < maxChoices) ⌝ }
     ensures { λ r. ⌜ r .0 ≡ loadedChoice (now (b .entry)) i a ⌝ }
 {
-    Points(choice_at(b, Block::LOADED_CHOICES_FROM, i, a))
+    places::points(b, choice_place(Block::LOADED_CHOICES_FROM, i, a))
 }
 
 // T of choice a of train i.
@@ -187,7 +155,7 @@ pub fn held_choice(b: &[i64], i: usize, a: usize) -> Parts
     requires { ⌜ (length (now b) ≡ blockLength) × (i < maxTrains) × (a < maxChoices) ⌝ }
     ensures { λ r. ⌜ r .0 ≡ heldChoice (now (b .entry)) i a ⌝ }
 {
-    Parts(choice_at(b, Block::HELD_CHOICES_FROM, i, a))
+    places::parts(b, choice_place(Block::HELD_CHOICES_FROM, i, a))
 }
 
 // H of the choices a and c of pair k.
@@ -195,15 +163,7 @@ pub fn loaded_entry(b: &[i64], k: usize, a: usize, c: usize) -> Points
     requires { ⌜ (length (now b) ≡ blockLength) × (k < maxPairs) × (a < maxChoices) × (c < maxChoices) ⌝ }
     ensures { λ r. ⌜ r .0 ≡ loadedEntry (now (b .entry)) k a c ⌝ }
 {
-    Points(entry_at(b, Block::LOADED_ENTRIES_FROM, k, a, c))
-}
-
-// T of the choices a and c of pair k.
-pub fn held_entry(b: &[i64], k: usize, a: usize, c: usize) -> Parts
-    requires { ⌜ (length (now b) ≡ blockLength) × (k < maxPairs) × (a < maxChoices) × (c < maxChoices) ⌝ }
-    ensures { λ r. ⌜ r .0 ≡ heldEntry (now (b .entry)) k a c ⌝ }
-{
-    Parts(entry_at(b, Block::HELD_ENTRIES_FROM, k, a, c))
+    places::points(b, entry_place(Block::LOADED_ENTRIES_FROM, k, a, c))
 }
 
 // ---- writers
@@ -230,14 +190,6 @@ pub fn put_pairs(b: &mut [i64], m: usize)
     ensures { λ _. ⌜ now (b .exit) ≡ set (now (b .entry)) pairsPlace (pos (m)) ⌝ }
 {
     places::put(b, Block::PAIRS_PLACE, m as u64);
-}
-
-// Stores c0.
-pub fn put_constant(b: &mut [i64], v: Parts)
-    requires { ⌜ (length (now b) ≡ blockLength) × (v .0 < 2 ^ 63) ⌝ }
-    ensures { λ _. ⌜ now (b .exit) ≡ set (now (b .entry)) constantPlace (pos (v .0)) ⌝ }
-{
-    places::put(b, Block::CONSTANT_PLACE, v.0);
 }
 
 // Stores the size of train i.
@@ -269,7 +221,7 @@ pub fn put_loaded_choice(b: &mut [i64], i: usize, a: usize, v: Points)
     requires { ⌜ (length (now b) ≡ blockLength) × (i < maxTrains) × (a < maxChoices) × (v .0 < 2 ^ 63) ⌝ }
     ensures { λ _. ⌜ now (b .exit) ≡ set (now (b .entry)) (loadedChoicePlace i a) (pos (v .0)) ⌝ }
 {
-    put_choice_at(b, Block::LOADED_CHOICES_FROM, i, a, v.0);
+    places::put_points(b, choice_place(Block::LOADED_CHOICES_FROM, i, a), v);
 }
 
 // Stores T of choice a of train i.
@@ -277,21 +229,5 @@ pub fn put_held_choice(b: &mut [i64], i: usize, a: usize, v: Parts)
     requires { ⌜ (length (now b) ≡ blockLength) × (i < maxTrains) × (a < maxChoices) × (v .0 < 2 ^ 63) ⌝ }
     ensures { λ _. ⌜ now (b .exit) ≡ set (now (b .entry)) (heldChoicePlace i a) (pos (v .0)) ⌝ }
 {
-    put_choice_at(b, Block::HELD_CHOICES_FROM, i, a, v.0);
-}
-
-// Stores H of the choices a and c of pair k.
-pub fn put_loaded_entry(b: &mut [i64], k: usize, a: usize, c: usize, v: Points)
-    requires { ⌜ (length (now b) ≡ blockLength) × (k < maxPairs) × (a < maxChoices) × (c < maxChoices) × (v .0 < 2 ^ 63) ⌝ }
-    ensures { λ _. ⌜ now (b .exit) ≡ set (now (b .entry)) (loadedEntryPlace k a c) (pos (v .0)) ⌝ }
-{
-    put_entry_at(b, Block::LOADED_ENTRIES_FROM, k, a, c, v.0);
-}
-
-// Stores T of the choices a and c of pair k.
-pub fn put_held_entry(b: &mut [i64], k: usize, a: usize, c: usize, v: Parts)
-    requires { ⌜ (length (now b) ≡ blockLength) × (k < maxPairs) × (a < maxChoices) × (c < maxChoices) × (v .0 < 2 ^ 63) ⌝ }
-    ensures { λ _. ⌜ now (b .exit) ≡ set (now (b .entry)) (heldEntryPlace k a c) (pos (v .0)) ⌝ }
-{
-    put_entry_at(b, Block::HELD_ENTRIES_FROM, k, a, c, v.0);
+    places::put_parts(b, choice_place(Block::HELD_CHOICES_FROM, i, a), v);
 }

@@ -6,6 +6,8 @@ ghost use lib.ListN.{length, set};
 ghost use Rattle.tables.specs.Block.{at, figure};
 ghost use Rattle.tables.specs.WellFormed.{from-to, within};
 ghost use Rattle.tables.specs.Rows.{runWithin};
+use units::Parts;
+use units::Points;
 
 // The number at place p, 0 where it is negative.
 pub fn get(b: &[i64], p: usize) -> u64
@@ -28,12 +30,44 @@ pub fn natural(b: &[i64], p: usize) -> u64
     z as u64
 }
 
+// The figure in points at place p.
+pub fn points(b: &[i64], p: usize) -> Points
+    requires { ⌜ p < length (now b) ⌝ }
+    ensures { λ r. ⌜ r .0 ≡ figure (now (b .entry)) p ⌝ }
+{
+    Points::of(get(b, p))
+}
+
+// The figure in parts at place p.
+pub fn parts(b: &[i64], p: usize) -> Parts
+    requires { ⌜ p < length (now b) ⌝ }
+    ensures { λ r. ⌜ r .0 ≡ figure (now (b .entry)) p ⌝ }
+{
+    Parts::of(get(b, p))
+}
+
 // Stores v at place p.
 pub fn put(b: &mut [i64], p: usize, v: u64)
     requires { ⌜ (p < length (now b)) × (v < 2 ^ 63) ⌝ }
     ensures { λ _. ⌜ now (b .exit) ≡ set (now (b .entry)) p (pos v) ⌝ }
 {
     b[p] = v as i64;
+}
+
+// Stores a figure in points at place p.
+pub fn put_points(b: &mut [i64], p: usize, v: Points)
+    requires { ⌜ (p < length (now b)) × (v .0 < 2 ^ 63) ⌝ }
+    ensures { λ _. ⌜ now (b .exit) ≡ set (now (b .entry)) p (pos (v .0)) ⌝ }
+{
+    put(b, p, v.number());
+}
+
+// Stores a figure in parts at place p.
+pub fn put_parts(b: &mut [i64], p: usize, v: Parts)
+    requires { ⌜ (p < length (now b)) × (v .0 < 2 ^ 63) ⌝ }
+    ensures { λ _. ⌜ now (b .exit) ≡ set (now (b .entry)) p (pos (v .0)) ⌝ }
+{
+    put(b, p, v.number());
 }
 
 // Whether the number at place p is from low to high.

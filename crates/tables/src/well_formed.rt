@@ -4,7 +4,7 @@ ghost use mathlib.Core.Bool.{true};
 ghost use Prim.Native.Nat.{_+_, _*_, _<_, _≤_};
 ghost use lib.ListN.{length};
 ghost use Rattle.tables.specs.Block.{blockLength, maxTrains, maxChoices, maxPairs, entriesOfPair, pairs};
-ghost use Rattle.tables.specs.WellFormed.{from-to, before, follows, pairRight, pairsRight, fresh, holdsStudy, wellFormed, newBlock};
+ghost use Rattle.tables.specs.WellFormed.{from-to, before, follows, pairRight, pairsRight, fresh, holdsStudy, newBlock};
 ghost use Rattle.tables.specs.Rows.{runWithin, rowWithin, headRight, shapeRight, choicesUsed, choicesWithin, entriesUsed, pairWithin, entriesWithin};
 use crate::block;
 use crate::block::Block;
@@ -22,31 +22,22 @@ impl Block {
     pub fn new(numbers: &[i64]) -> NewBlock
         ensures { λ r. ⌜ r ≡ newBlock (now (numbers .entry)) ⌝ }
     {
-        let right = well_formed(numbers);
-        let fresh = fresh(numbers);
-        if right {
-            NewBlock::Within(Block::known(fresh))
+        if numbers.len() != Block::LENGTH {
+            return NewBlock::Outside;
+        }
+        if fresh(numbers) {
+            return NewBlock::Within(Block::known(true));
+        }
+        if holds_study(numbers) {
+            NewBlock::Within(Block::known(false))
         } else {
             NewBlock::Outside
         }
     }
 }
 
-// Whether the block is well formed.
-pub fn well_formed(block: &[i64]) -> bool
-    ensures { λ r. ⌜ r ≡ wellFormed (now (block .entry)) ⌝ }
-{
-    if block.len() != Block::LENGTH {
-        return false;
-    }
-    if fresh(block) {
-        return true;
-    }
-    holds_study(block)
-}
-
 // Whether all numbers are 0. The first is looked at by itself: in a loaded study it is n, and the others need no look.
-pub fn fresh(block: &[i64]) -> bool
+fn fresh(block: &[i64]) -> bool
     ensures { λ r. ⌜ r ≡ fresh (now (block .entry)) ⌝ }
 {
     if block.len() == 0 {
@@ -69,16 +60,16 @@ pub fn holds_study(b: &[i64]) -> bool
     if !pairs_right(b) {
         return false;
     }
-    if !choices_within(b, Block::LOADED_CHOICES_FROM, Block::COST) {
+    if !choices_within(b, Block::LOADED_CHOICES_FROM, Block::COST.number()) {
         return false;
     }
-    if !choices_within(b, Block::HELD_CHOICES_FROM, Block::PARTS) {
+    if !choices_within(b, Block::HELD_CHOICES_FROM, Block::PARTS.number()) {
         return false;
     }
-    if !entries_within(b, Block::LOADED_ENTRIES_FROM, Block::COST) {
+    if !entries_within(b, Block::LOADED_ENTRIES_FROM, Block::COST.number()) {
         return false;
     }
-    entries_within(b, Block::HELD_ENTRIES_FROM, Block::PARTS)
+    entries_within(b, Block::HELD_ENTRIES_FROM, Block::PARTS.number())
 }
 
 // Whether `count` places from `from` on are from low to high.
@@ -121,7 +112,7 @@ fn head_right(b: &[i64]) -> bool
     if !places::is_within(b, Block::PAIRS_PLACE, 0, Block::PAIRS as u64) {
         return false;
     }
-    places::is_within(b, Block::CONSTANT_PLACE, 0, Block::PARTS)
+    places::is_within(b, Block::CONSTANT_PLACE, 0, Block::PARTS.number())
 }
 
 // Whether the head, the sizes and the pairs' trains are within their limits.

@@ -14,6 +14,7 @@ use rewriting::sides::Side;
 use tables::block;
 use tables::block::Block;
 use tables::places;
+use units::Parts;
 
 // Tightens the held costs: leasts of rows and columns go to the choices, then leasts of the choices to the constant.
 pub fn tighten(block: &mut [i64]) -> Outcome
@@ -28,17 +29,17 @@ pub fn tighten(block: &mut [i64]) -> Outcome
     outcome::settle(block, &end)
 }
 
-// The least number of a run.
-fn run_least(b: &[i64], run: Run) -> u64
+// The least figure of a run, in parts.
+fn run_least(b: &[i64], run: Run) -> Parts
     requires { ⌜ (RunIn (now b) run) × (0 < run .count) ⌝ }
-    ensures { λ r. ⌜ r ≡ runLeast run (now (b .entry)) ⌝ }
+    ensures { λ r. ⌜ r .0 ≡ runLeast run (now (b .entry)) ⌝ }
 {
-    let mut least = places::get(b, run.from);
+    let mut least = places::parts(b, run.from);
     let mut i = 0;
     while i + 1 < run.count {
         i += 1;
-        let x = places::get(b, run.from + run.step * i);
-        if x < least {
+        let x = places::parts(b, run.from + run.step * i);
+        if !least.at_most(x) {
             least = x;
         }
     }
@@ -51,7 +52,7 @@ fn tighten_run(b: &mut [i64], run: Run)
     ensures { λ _. ⌜ now (b .exit) ≡ runTightened run (now (b .entry)) ⌝ }
 {
     let least = run_least(b, run);
-    moves::move_run(b, run, least as i64);
+    moves::move_run(b, run, least.number() as i64);
 }
 
 // Moves the least of line x of pair k to choice x of the side's train.

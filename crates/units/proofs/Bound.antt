@@ -5,7 +5,7 @@ use Prim.Native.Nat.{ℕ, suc, _+_, _-_, _*_, _/_, _<_, _≤_}
 use native.Mathlib.Nat.{mul-comm, suc-mul, div-lt-iff-lt-mul, lt-div-mul-add, le-antisymm, le-of-mul-le-mul-left}
 use native.Mathlib.Omega.{arith}
 use lib.Dec.{ltb}
-use borrow.Author.Tests.{ltb-false}
+use borrow.Author.Tests.{le-ltb, ltb-false}
 use Rattle.units.specs.declared.Scale.{Scale}
 use Rattle.units.specs.declared.NewScale.the-variants.{Within, Outside}
 use Rattle.units.specs.Units.{Sound, newScale, theScale, scaleMin, scaleMax, roundedUp}
@@ -20,6 +20,10 @@ new-scale-sound n s e = go (ltb n scaleMin) (ltb scaleMax n) refl refl e
     go false false p q e =
         let h : theScale n ≡ s = cc in
         (sym h, rw (← h) (record { low = ltb-false n scaleMin p; high = ltb-false scaleMax n q }))
+
+-- and of every number within the limits
+pub new-scale-within : (n : ℕ) → scaleMin ≤ n → n ≤ scaleMax → newScale n ≡ Within (theScale n)
+new-scale-within n p q = rw (le-ltb n scaleMin p, le-ltb scaleMax n q)
 
 module _ (s : ℕ) (h : 0 < s) where
   -- the bound is not below the parts

@@ -56,6 +56,9 @@ returns-2 c =
     let f = v .before .before in
     rw (train (f .before), ← f .field .ensures, ← v .before .size .ensures) (declined (v .index-verdict2 .result) _ _ (c .before .is-fine2 .ensures) (v .index-verdict2 .ensures) (c .if2 .taken))
 
+cost-requires : tie.Need-cost-requires
+cost-requires c κs = search needs
+
 field-verdict-requires : tie.Need-field-verdict-requires
 field-verdict-requires c κs = search needs
 
@@ -73,7 +76,8 @@ returns-3 : tie.Need-returns-3
 unfolding addVerdict
 returns-3 c =
     let v = c .before .before in
-    rw (train (v .before .before .before .before .before .before), choice (v .before)) (declined (v .field-verdict .result) _ _ (c .before .is-fine3 .ensures) (v .field-verdict .ensures) (c .if3 .taken))
+    let d = v .before .before in
+    rw (train (d .before .before .before .before .before), choice d, ← v .before .cost .ensures) (declined (v .field-verdict .result) _ _ (c .before .is-fine3 .ensures) (v .field-verdict .ensures) (c .if3 .taken))
 
 end-verdict-requires : tie.Need-end-verdict-requires
 end-verdict-requires c κs = search needs
@@ -82,8 +86,9 @@ returns-4 : tie.Need-returns-4
 unfolding addVerdict
 returns-4 c =
     let v = c .before .before .before in
-    let t = v .before .before .before .before .before .before in
-    rw (train t, choice (v .before), went-on (v .field-verdict .result) _ (c .before .before .is-fine3 .ensures) (v .field-verdict .ensures) (c .before .if3 .left), ← t .before .before .before .before .before .pre .0 .whole) (c .end-verdict .ensures)
+    let d = v .before .before in
+    let t = d .before .before .before .before .before in
+    rw (train t, choice d, ← v .before .cost .ensures, went-on (v .field-verdict .result) _ (c .before .before .is-fine3 .ensures) (v .field-verdict .ensures) (c .before .if3 .left), ← t .before .before .before .before .before .pre .0 .whole) (c .end-verdict .ensures)
 
 pub add-verdict-spec : {M : Type 1} → statement M
 add-verdict-spec =
@@ -98,6 +103,7 @@ add-verdict-spec =
     index-verdict-requires-2
     is-fine-requires-2
     returns-2
+    cost-requires
     field-verdict-requires
     is-fine-requires-3
     returns-3

@@ -18,11 +18,14 @@ enum-told-2 c = search needs
 enum-known-frame : tie.Need-enum-known-frame
 enum-known-frame c = search needs
 
+bytes-requires : tie.Need-bytes-requires
+bytes-requires c κs = search needs
+
 read-kind-requires : tie.Need-read-kind-requires
 read-kind-requires c κs =
-    let f = c .before in
+    let f = c .before .before in
     let s = f .before .before .before .before in
-    (new-framed (s .args .line .now) (f .frame .given .0 .0) (sym (f .before .before .new .ensures) ∙ f .frame .given .1), s .pre)
+    (rw (c .bytes .ensures) (new-framed (s .args .line .now) (f .frame .given .0 .0) (sym (f .before .before .new .ensures) ∙ f .frame .given .1)), s .pre .0, s .pre .1)
 
 returns : tie.Need-returns
 unfolding lineOf
@@ -34,7 +37,7 @@ returns-2 c = rw (← c .before .before .new .ensures, c .enum-told2 .given .1)
 
 returns-3 : tie.Need-returns-3
 unfolding lineOf
-returns-3 c = let f = c .before .before in rw (← f .before .before .new .ensures, f .frame .given .1) (c .read-kind .ensures)
+returns-3 c = let f = c .before .before .before in rw (← f .before .before .new .ensures, f .frame .given .1) (c .read-kind .ensures)
 
 pub read-spec : {M : Type 1} → statement M
 read-spec =
@@ -44,6 +47,7 @@ read-spec =
     enum-told
     enum-told-2
     enum-known-frame
+    bytes-requires
     read-kind-requires
     returns
     returns-2

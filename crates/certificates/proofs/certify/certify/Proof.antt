@@ -43,9 +43,12 @@ light c =
     let s = d .before .before in
     light-runs (s .pre .0) (s .pre .1 .0) (passed (d .trains-match .ensures) (g .before .if1 .left)) (passed (g .pairs-match .ensures) (c .if2 .left))
 
+number-requires : tie.Need-number-requires
+number-requires c κs = search needs
+
 mul-floor : tie.Need-mul-floor
 mul-floor c = let s = c .before .before .before .before .before .before .before in
-    rw (c .before .constant .ensures) (omega (arith, floor-most (s .pre .0) (s .pre .1 .0)))
+    rw (c .number .ensures, c .before .constant .ensures) (omega (arith, floor-most (s .pre .0) (s .pre .1 .0)))
 
 trains-weighted-requires : tie.Need-trains-weighted-requires
 trains-weighted-requires c κs = let s = c .before .before .before .before .before .before .before in (s .pre .0, (s .pre .1 .1, light (c .before .before)))
@@ -55,11 +58,11 @@ pairs-weighted-requires c κs = let s = c .before .before .before .before .befor
 
 -- so that E fits
 fits : (c : tie.After-pairs-weighted)
-    → c .before .before .before .before .before .before .before .before .before .args .whole * c .before .before .before .constant .result .0 + c .before .trains-weighted .result + c .pairs-weighted .result < 2 ^ 63
+    → c .before .before .before .before .before .before .before .before .before .args .whole * c .before .before .number .result + c .before .trains-weighted .result + c .pairs-weighted .result < 2 ^ 63
 fits c =
     let k = c .before .before .before in
     let s = k .before .before .before .before .before .before in
-    rw (k .constant .ensures) (omega (arith, c .before .trains-weighted .ensures, c .pairs-weighted .ensures, floor-most (s .pre .0) (s .pre .1 .0), parts-most (s .pre .0) (light (k .before))))
+    rw (c .before .before .number .ensures, k .constant .ensures) (omega (arith, c .before .trains-weighted .ensures, c .pairs-weighted .ensures, floor-most (s .pre .0) (s .pre .1 .0), parts-most (s .pre .0) (light (k .before))))
 
 add-weighted : tie.Need-add-weighted
 add-weighted c = omega (arith, fits c)
@@ -80,6 +83,7 @@ returns-3 c = let k = c .before .before .before in
       not-false (g .pairs-match .result) (k .before .if2 .left),
       weighted-runs (a .block .now) (a .whole) (a .weights .now),
       ← k .constant .ensures,
+      ← c .before .before .number .ensures,
       ← c .before .trains-weighted .ensures,
       ← c .pairs-weighted .ensures,
     )
@@ -93,6 +97,7 @@ certify-spec =
     pairs-match-requires
     returns-2
     constant-requires
+    number-requires
     mul-floor
     trains-weighted-requires
     pairs-weighted-requires

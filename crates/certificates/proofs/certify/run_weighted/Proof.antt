@@ -1,6 +1,6 @@
 -- The sum so far is that of the weights passed, each times its number. The run is light, so that no front of it is more than 100,000 times the highest held cost.
 use borrow.Author.Needs.{needs}
-use mathlib.Core.Path.{_≡_, sym}
+use mathlib.Core.Path.{_≡_, sym, _∙_}
 use Prim.Native.Nat.{_-_, _≤_}
 use native.Mathlib.Omega.{arith}
 use Rattle.tables.proofs.Sum.{sum-none}
@@ -27,17 +27,20 @@ mul-sum c = search needs
 shared-slice-read-sum : tie.Need-shared-slice-read-sum Inv-loop μ-loop
 shared-slice-read-sum c = search needs
 
-add-get : tie.Need-add-get Inv-loop μ-loop
-add-get c = search needs
+add-parts : tie.Need-add-parts Inv-loop μ-loop
+add-parts c = search needs
 
-get-requires : tie.Need-get-requires Inv-loop μ-loop
-get-requires c κs = search needs
+parts-requires : tie.Need-parts-requires Inv-loop μ-loop
+parts-requires c κs = search needs
+
+number-requires : tie.Need-number-requires Inv-loop μ-loop
+number-requires c κs = search needs
 
 mul-sum-2 : tie.Need-mul-sum-2 Inv-loop μ-loop
-mul-sum-2 c = let l = c .before .before .before in omega (arith, run-next (l .before .before .pre) (l .loop .k) (omega arith) (l .loop .inv .1) (c .get .ensures))
+mul-sum-2 c = let l = c .before .before .before .before in omega (arith, run-next (l .before .before .pre) (l .loop .k) (omega arith) (l .loop .inv .1) (c .number .ensures ∙ c .before .parts .ensures))
 
 add-sum-2 : tie.Need-add-sum-2 Inv-loop μ-loop
-add-sum-2 c = let l = c .before .before .before in omega (arith, run-next (l .before .before .pre) (l .loop .k) (omega arith) (l .loop .inv .1) (c .get .ensures))
+add-sum-2 c = let l = c .before .before .before .before in omega (arith, run-next (l .before .before .pre) (l .loop .k) (omega arith) (l .loop .inv .1) (c .number .ensures ∙ c .before .parts .ensures))
 
 add-k : tie.Need-add-k Inv-loop μ-loop
 add-k c = search needs
@@ -46,7 +49,7 @@ loop-less : tie.Need-loop-less Inv-loop μ-loop
 loop-less c = search needs
 
 loop-again : tie.Need-loop-again Inv-loop μ-loop
-loop-again c = let l = c .before .before .before in (omega arith, run-next (l .before .before .pre) (l .loop .k) (omega arith) (l .loop .inv .1) (c .get .ensures) .0)
+loop-again c = let l = c .before .before .before .before in (omega arith, run-next (l .before .before .pre) (l .loop .k) (omega arith) (l .loop .inv .1) (c .number .ensures ∙ c .before .parts .ensures) .0)
 
 returns : tie.Need-returns Inv-loop μ-loop
 returns c = let e : c .before .loop .k ≡ c .before .before .before .args .count = omega arith in rw e at (c .before .loop .inv .1)
@@ -61,8 +64,9 @@ run-weighted-spec =
     add-sum
     mul-sum
     shared-slice-read-sum
-    add-get
-    get-requires
+    add-parts
+    parts-requires
+    number-requires
     mul-sum-2
     add-sum-2
     add-k

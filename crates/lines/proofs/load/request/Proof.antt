@@ -41,17 +41,14 @@ mul-pairs c = omega (arith, small c)
 add-pairs : tie.Need-add-pairs
 add-pairs c = omega (arith, small c)
 
+add-t9 : tie.Need-add-t9
+add-t9 c = omega (arith, small c)
+
 field-requires-2 : tie.Need-field-requires-2
-field-requires-2 c κs = omega (arith, fits (c .before .before .before) .there)
-
-add-t8 : tie.Need-add-t8
-add-t8 c = omega (arith, small (c .before))
-
-field-requires-3 : tie.Need-field-requires-3
-field-requires-3 c κs = omega (arith, small (c .before), counted (c .before), c .before .before .field .ensures, there (c .before .before .before .before))
+field-requires-2 c κs = omega (arith, small c, counted c, c .before .field .ensures, there (c .before .before .before))
 
 returns : tie.Need-returns
-returns c = let n = c .before .before in rw (← c .before .field2 .ensures, ← n .before .field .ensures, ← n .choice-count .ensures, ← c .field3 .ensures)
+returns c = let n = c .before in rw (← n .before .before .before .pre .2, ← n .before .field .ensures, ← n .choice-count .ensures, ← c .field2 .ensures)
 
 pub request-spec : {M : Type 1} → statement M
 request-spec =
@@ -62,7 +59,6 @@ request-spec =
     add-choices
     mul-pairs
     add-pairs
+    add-t9
     field-requires-2
-    add-t8
-    field-requires-3
     returns)

@@ -36,24 +36,31 @@ shared-slice-read-cost c = search needs
 small : (c : tie.In-loop Inv-loop μ-loop) → nth (c .before .before .before .args .costs .now) (c .before .before .before .args .start + c .before .loop .a) ≤ maxCost
 small c = c .before .before .before .pre .0 .1 .small (c .before .before .before .args .start + c .before .loop .a)
 
-parts-requires : tie.Need-parts-requires Inv-loop μ-loop
-parts-requires c κs = (c .before .before .before .before .pre .0 .0, omega (arith, small (c .before)))
+of-requires : tie.Need-of-requires Inv-loop μ-loop
+of-requires c κs = search needs
 
-add-put : tie.Need-add-put Inv-loop μ-loop
-add-put c = search needs
+-- the figure that is stored in H
+points : (c : tie.After-of Inv-loop μ-loop) → c .of .result .0 ≡ nth (c .before .before .before .before .before .args .costs .now) (c .before .before .before .before .before .args .start + c .before .before .before .loop .a)
+points c = c .of .ensures
 
-put-requires : tie.Need-put-requires Inv-loop μ-loop
-put-requires c κs = omega (arith, small (c .before .before .before))
+in-parts-requires : tie.Need-in-parts-requires Inv-loop μ-loop
+in-parts-requires c κs = (c .before .before .before .before .before .pre .0 .0, omega (arith, points c, small (c .before .before)))
 
-add-put-2 : tie.Need-add-put-2 Inv-loop μ-loop
-add-put-2 c = search needs
+add-put-points : tie.Need-add-put-points Inv-loop μ-loop
+add-put-points c = search needs
+
+put-points-requires : tie.Need-put-points-requires Inv-loop μ-loop
+put-points-requires c κs = omega (arith, points (c .before .before), small (c .before .before .before .before))
+
+add-put-parts : tie.Need-add-put-parts Inv-loop μ-loop
+add-put-parts c = search needs
 
 -- what is stored in T
-held : (c : tie.After-parts Inv-loop μ-loop) → c .parts .result .0 ≡ c .before .before .before .before .before .args .scale .0 * nth (c .before .before .before .before .before .args .costs .now) (c .before .before .before .before .before .args .start + c .before .before .before .loop .a)
-held c = ap (λ (q : Parts). q .0) (c .parts .ensures)
+held : (c : tie.After-in-parts Inv-loop μ-loop) → c .in-parts .result .0 ≡ c .before .before .before .before .before .before .args .scale .0 * nth (c .before .before .before .before .before .before .args .costs .now) (c .before .before .before .before .before .before .args .start + c .before .before .before .before .loop .a)
+held c = rw (points (c .before)) at (ap (λ (q : Parts). q .0) (c .in-parts .ensures))
 
-put-requires-2 : tie.Need-put-requires-2 Inv-loop μ-loop
-put-requires-2 c κs = let d = c .before .before .before .before in omega (arith, held d, mul-le-mul (d .before .before .before .before .before .pre .0 .0 .high) (small (d .before .before)))
+put-parts-requires : tie.Need-put-parts-requires Inv-loop μ-loop
+put-parts-requires c κs = let d = c .before .before .before .before in omega (arith, held d, mul-le-mul (d .before .before .before .before .before .before .pre .0 .0 .high) (small (d .before .before .before)))
 
 add-a : tie.Need-add-a Inv-loop μ-loop
 add-a c = search needs
@@ -64,11 +71,11 @@ loop-less c = search needs
 loop-again : tie.Need-loop-again Inv-loop μ-loop
 loop-again c =
     let d = c .before .before .before .before .before .before in
-    let l = d .before .before .before in
+    let l = d .before .before .before .before in
     let a = l .before .before .args in (
       omega arith,
       search needs,
-      run-more (a .scale .0) (a .costs .now) (a .start) (a .loaded) (a .held) (l .loop .a) (a .b .now) (l .loop .inv .2) (c .before .before .before .before .put .ensures) (held d) (c .before .put2 .ensures),
+      run-more (a .scale .0) (a .costs .now) (a .start) (a .loaded) (a .held) (l .loop .a) (a .b .now) (l .loop .inv .2) (rw (points (d .before)) at (c .before .before .before .before .put-points .ensures)) (held d) (c .before .put-parts .ensures),
     )
 
 same-length : tie.Need-same-length Inv-loop μ-loop
@@ -87,11 +94,12 @@ load-run-spec =
     add-cost
     mul-cost
     shared-slice-read-cost
-    parts-requires
-    add-put
-    put-requires
-    add-put-2
-    put-requires-2
+    of-requires
+    in-parts-requires
+    add-put-points
+    put-points-requires
+    add-put-parts
+    put-parts-requires
     add-a
     loop-less
     loop-again

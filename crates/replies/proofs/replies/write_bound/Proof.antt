@@ -27,6 +27,12 @@ add-put-field c = search needs
 put-field-requires : tie.Need-put-field-requires
 put-field-requires c κs = search needs
 
+number-requires : tie.Need-number-requires
+number-requires c κs = search needs
+
+number-requires-2 : tie.Need-number-requires-2
+number-requires-2 c κs = search needs
+
 put-field-requires-2 : tie.Need-put-field-requires-2
 put-field-requires-2 c κs = search needs
 
@@ -38,10 +44,16 @@ same-length c = search needs
 
 returns : tie.Need-returns
 returns c =
-    let s = c .before .before .before .before .before .before .before .before .before .before .before .before .before .before .before .before in
-    let d = c .before .before .before .before .before .before .before .before .before .before .before .before in
-    let e = ap (λ (p : Points). p .0) (d .bound .ensures) ∙ ap₂ roundedUp (d .before .scale .ensures) (d .before .before .constant .ensures) in
-    wrote-as (wrote-field (wrote-field (wrote-field wrote-none 1 refl (c .before .before .before .before .before .before .before .before .before .before .put-field .ensures)) 6 (d .before .before .constant .ensures) (c .before .before .before .before .before .before .put-field2 .ensures)) 6 e (c .before .before .put-field3 .ensures))
+    let p3 = c .before .before in
+    let n2 = p3 .before in
+    let p2 = n2 .before .before .before .before in
+    let n1 = p2 .before in
+    let p1 = n1 .before .before .before .before in
+    let d = p1 .before .before in
+    let s = d .before .before .before .before in
+    let constant = n1 .number .ensures ∙ d .before .before .constant .ensures in
+    let bound = n2 .number2 .ensures ∙ ap (λ (p : Points). p .0) (d .bound .ensures) ∙ ap₂ roundedUp (d .before .scale .ensures) (d .before .before .constant .ensures) in
+    wrote-as (wrote-field (wrote-field (wrote-field wrote-none 1 refl (p1 .put-field .ensures)) 6 constant (p2 .put-field2 .ensures)) 6 bound (p3 .put-field3 .ensures))
     (bound-fields (s .args .kind) (s .args .block .now))
 
 pub write-bound-spec : {M : Type 1} → statement M
@@ -53,7 +65,9 @@ write-bound-spec =
     bound-requires
     add-put-field
     put-field-requires
+    number-requires
     put-field-requires-2
+    number-requires-2
     put-field-requires-3
     same-length
     returns)

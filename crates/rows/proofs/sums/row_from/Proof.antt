@@ -10,10 +10,13 @@ use Rattle.rows.proofs.sums.row_from.Statement.{statement}
 use Rattle.rows.proofs.sums.row_from.Tie as tie
 
 abbrev Inv-loop : tie.InvT-loop
-Inv-loop sums from partial row₀ a₀ row a = (a ≤ maxChoices) × (length row ≡ maxChoices) × ((i : ℕ) → i < a → getD row i 0 ≡ partial .0 + getD sums (from + i) 0)
+Inv-loop sums from so-far row₀ a₀ row a = (a ≤ maxChoices) × (length row ≡ maxChoices) × ((i : ℕ) → i < a → getD row i 0 ≡ so-far + getD sums (from + i) 0)
 
 abbrev μ-loop : tie.MeasureT-loop
-μ-loop sums from partial row₀ a₀ row a = maxChoices - a
+μ-loop sums from so-far row₀ a₀ row a = maxChoices - a
+
+number-requires : tie.Need-number-requires Inv-loop μ-loop
+number-requires c κs = search needs
 
 loop-holds : tie.Need-loop-holds Inv-loop μ-loop
 loop-holds c = (omega arith, refl, λ i h. absurd (omega arith))
@@ -29,8 +32,8 @@ element-copy-out-row c = search needs
 
 add-row-2 : tie.Need-add-row-2 Inv-loop μ-loop
 add-row-2 c =
-    let l = c .before .before .before .loop in
-    omega (arith, c .before .before .before .before .pre .1 (l .a) (omega arith))
+    let d = c .before .before in
+    omega (arith, d .before .number .ensures, d .before .before .pre .1 (d .loop .a) (omega arith))
 
 mul-row-2 : tie.Need-mul-row-2 Inv-loop μ-loop
 mul-row-2 c = omega arith
@@ -46,14 +49,16 @@ loop-less c = search needs
 
 loop-again : tie.Need-loop-again Inv-loop μ-loop
 loop-again c =
-    let l = c .before .before .before .loop in
-    let s = c .before .before .before .before in
-    (omega arith, simp length-set (l .inv .1), written (λ i v. v ≡ s .args .partial .0 + getD (s .args .sums .now) (s .args .from + i) 0) (l .row) (l .a) _ (omega arith) (l .inv .2) refl)
+    let l = c .before .before .loop in
+    let n = c .before .before .before in
+    let s = n .before in
+    (omega arith, simp length-set (l .inv .1), written (λ i v. v ≡ n .number .result + getD (s .args .sums .now) (s .args .from + i) 0) (l .row) (l .a) _ (omega arith) (l .inv .2) refl)
 
 returns : tie.Need-returns Inv-loop μ-loop
 returns c =
     let l = c .before .loop in
-    record { whole = l .inv .1; each = λ a h. l .inv .2 a (omega arith) }
+    let e = c .before .before .number .ensures in
+    record { whole = l .inv .1; each = λ a h. omega (arith, e, l .inv .2 a (omega arith)) }
 
 pub row-from-spec : {M : Type 1} → statement M
-row-from-spec = tie.close (tie.spec Inv-loop μ-loop loop-holds add-row mul-row element-copy-out-row add-row-2 mul-row-2 array-write-row add-a loop-less loop-again returns)
+row-from-spec = tie.close (tie.spec Inv-loop μ-loop number-requires loop-holds add-row mul-row element-copy-out-row add-row-2 mul-row-2 array-write-row add-a loop-less loop-again returns)

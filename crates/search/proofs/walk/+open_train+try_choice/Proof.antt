@@ -24,6 +24,8 @@ use Rattle.search.proofs.walk.+open_train+try_choice.Lts-open_train as 
 use Rattle.search.proofs.walk.try_choice.Reads as try-choice
 use Rattle.search.proofs.walk.try_choice.Kinds as try-choice-kinds
 use Rattle.search.proofs.walk.+open_train+try_choice.Lts-try_choice as try-choice-lts
+use Rattle.units.proofs.Parts.of.Reads as of-reads
+use Rattle.units.proofs.Parts.number.Reads as number-reads
 use Rattle.rows.proofs.sums.carry.Reads as carry-reads
 use Rattle.rows.proofs.sums.row_from.Reads as row-from-reads
 use Rattle.search.proofs.walk.+open_train+try_choice.{statement}
@@ -62,10 +64,10 @@ open-train-μ-loop table sums₀ chosen₀ plan₀ best₀ t left row d rest₀ 
 
 -- what the two members are handed of their callees
 abbrev open-calls : ℕ → open-train-lts.Claims
-open-calls t = (row-from-reads.Asked, row-from-reads.Learnt, try-choice-below t, try-choice.Post)
+open-calls t = (row-from-reads.Asked, row-from-reads.Learnt, of-reads.Asked, of-reads.Learnt, try-choice-below t, try-choice.Post)
 
 abbrev try-calls : ℕ → try-choice-lts.Claims
-try-calls t = (carry-reads.Asked, carry-reads.Learnt, open-train-below t, open-train.Post)
+try-calls t = (number-reads.Asked, number-reads.Learnt, carry-reads.Asked, carry-reads.Learnt, open-train-below t, open-train.Post)
 
 module _ (t : ℕ) where
   o-add-row-from : open-train-lts.Need-add-row-from (open-calls t) (open-train-at t) open-train.Post open-train-Inv-loop open-train-μ-loop
@@ -106,33 +108,38 @@ module _ (t : ℕ) where
   o-loop-holds : open-train-lts.Need-loop-holds (open-calls t) (open-train-at t) open-train.Post open-train-Inv-loop open-train-μ-loop
   o-loop-holds c = (omega arith, omega arith, alike-refl _ _ _, steady-refl _ _, λ b budget partial p f h. refl)
 
-  o-mul-sum : open-train-lts.Need-mul-sum (open-calls t) (open-train-at t) open-train.Post open-train-Inv-loop open-train-μ-loop
-  o-mul-sum c =
+  o-mul-of : open-train-lts.Need-mul-of (open-calls t) (open-train-at t) open-train.Post open-train-Inv-loop open-train-μ-loop
+  o-mul-of c =
       let s = c .before .before .before .before .before .before in
       let p = s .pre .1 .at in
       omega (arith, p .laid .sizes (s .args .t) (p .train), size-range (p .study) (s .args .t) (p .train))
 
-  o-array-read-sum : open-train-lts.Need-array-read-sum (open-calls t) (open-train-at t) open-train.Post open-train-Inv-loop open-train-μ-loop
-  o-array-read-sum c =
+  o-array-read-of : open-train-lts.Need-array-read-of (open-calls t) (open-train-at t) open-train.Post open-train-Inv-loop open-train-μ-loop
+  o-array-read-of c =
       let s = c .before .before .before .before .before .before in
       let p = s .pre .1 .at in
       omega (arith, p .laid .sizes (s .args .t) (p .train), size-range (p .study) (s .args .t) (p .train))
+
+  o-of-requires : open-train-lts.Need-of-requires (open-calls t) (open-train-at t) open-train.Post open-train-Inv-loop open-train-μ-loop
+  o-of-requires c κs = search needs
 
   o-try-choice-requires : open-train-lts.Need-try-choice-requires (open-calls t) (open-train-at t) open-train.Post open-train-Inv-loop open-train-μ-loop
   o-try-choice-requires c κs =
-      let l = c .before .before .before .before .before .loop in
-      let s = c .before .before .before .before .before .before .before .before .before .before in
+      let d = c .before .before .before .before in
+      let l = d .before .before .loop in
+      let r = d .before .before .before .before in
+      let s = r .before .before .before in
       let q = s .pre .1 in
       let p = q .at in
       let z = size-range (p .study) (s .args .t) (p .train) in
       let e = p .laid .sizes (s .args .t) (p .train) in
       let h : l .a < size (q .block) (s .args .t) = omega (arith, e) in
-      let g = at-sums p (c .before .before .before .before .before .before .before .row-from .ensures) .each (l .a) (omega (arith, z)) in
+      let g = d .of .ensures ∙ at-sums p (r .row-from .ensures) .each (l .a) (omega (arith, z)) in
       (omega (arith, p .train, p .laid .n, z, e), record { block = q .block; at = trying-at p h g (l .inv .2) (l .inv .3) })
 
   o-add-a : open-train-lts.Need-add-a (open-calls t) (open-train-at t) open-train.Post open-train-Inv-loop open-train-μ-loop
   o-add-a c =
-      let s = c .before .before .before .before .before .before .before .before .before .before .before in
+      let s = c .before .before .before .before .before .before .before .before .before .before .before .before in
       let p = s .pre .1 .at in
       omega (arith, p .laid .sizes (s .args .t) (p .train), size-range (p .study) (s .args .t) (p .train))
 
@@ -141,8 +148,9 @@ module _ (t : ℕ) where
 
   o-loop-again : open-train-lts.Need-loop-again (open-calls t) (open-train-at t) open-train.Post open-train-Inv-loop open-train-μ-loop
   o-loop-again c =
-      let l = c .before .before .before .before .before .before .loop in
-      let s = c .before .before .before .before .before .before .before .before .before .before .before in
+      let d = c .before .before .before .before .before in
+      let l = d .before .before .loop in
+      let s = d .before .before .before .before .before .before .before in
       let r = c .try-choice .ensures in (
         omega arith,
         omega (arith, r .fewer, l .inv .1),
@@ -150,7 +158,7 @@ module _ (t : ℕ) where
         steady-trans (l .inv .3) (r .steady),
         λ b budget partial p f m.
             let h : l .a < size b (s .args .t) = omega (arith, p .laid .sizes (s .args .t) (p .train)) in
-            let g = f .each (l .a) (omega (arith, size-range (p .study) (s .args .t) (p .train))) in
+            let g = d .of .ensures ∙ f .each (l .a) (omega (arith, size-range (p .study) (s .args .t) (p .train))) in
             tries-next p h g (l .inv .2) (l .inv .3) budget _ (walkOf budget (l .rest) (l .best) (l .plan)) (r .walk b budget (trying-at p h g (l .inv .2) (l .inv .3)) (omega (arith, l .inv .1))) ∙ l .inv .4 b budget partial p f m,
       )
 
@@ -180,11 +188,14 @@ module _ (t : ℕ) where
   t-sub-rest : try-choice-lts.Need-sub-rest (try-calls t) (try-choice-at t) try-choice.Post
   t-sub-rest c = search needs
 
+  t-number-requires : try-choice-lts.Need-number-requires (try-calls t) (try-choice-at t) try-choice.Post
+  t-number-requires c κs = search needs
+
   t-returns-2 : try-choice-lts.Need-returns-2 (try-calls t) (try-choice-at t) try-choice.Post
   t-returns-2 c =
       let s = c .before .before .before .before in
       record {
-        walk = λ b budget p m. held-dropped b budget (s .args .t) (s .args .a) (s .args .total .0) (s .args .left) (s .args .best .now) (s .args .chosen .now) (s .args .plan .now) m (trying-low p) (c .before .before .before .if1 .left) (c .if2 .taken);
+        walk = λ b budget p m. held-dropped b budget (s .args .t) (s .args .a) (s .args .total .0) (s .args .left) (s .args .best .now) (s .args .chosen .now) (s .args .plan .now) m (trying-low p) (c .before .before .before .if1 .left) (rw (c .before .before .number .ensures) at (c .if2 .taken));
         fewer = omega arith;
         kept = alike-refl _ _ _;
         steady = steady-refl _ _;
@@ -213,8 +224,9 @@ module _ (t : ℕ) where
   t-returns-3 c =
       let s = c .before .before .before .before .before .before .before in
       let q = s .pre .1 .at in
+      let e = c .before .before .before .before .before .number .ensures in
       record {
-        walk = λ b budget p m. held-whole b budget (s .args .t) (s .args .a) (s .args .total .0) (s .args .left) (s .args .best .now) (s .args .chosen .now) (s .args .plan .now) m (trying-low p) (c .before .before .before .before .before .before .if1 .left) (c .before .before .before .if2 .left) (c .before .if3 .taken ∙ p .laid .n);
+        walk = λ b budget p m. rw e (held-whole b budget (s .args .t) (s .args .a) (s .args .total .0) (s .args .left) (s .args .best .now) (s .args .chosen .now) (s .args .plan .now) m (trying-low p) (c .before .before .before .before .before .before .if1 .left) (rw e at (c .before .before .before .if2 .left)) (c .before .if3 .taken ∙ p .laid .n));
         fewer = omega arith;
         kept = alike-set _ _ _ _ (omega (arith, q .train, q .laid .n));
         steady = steady-refl _ _;
@@ -245,7 +257,7 @@ module _ (t : ℕ) where
       record {
         walk = λ b budget p m.
             let h : s .args .t + 1 < trains b = omega (arith, p .train, p .laid .n, c .before .before .before .before .before .before .before .before .if3 .left) in
-            held-opens b budget (s .args .t) (s .args .a) (s .args .total .0) (s .args .left) (s .args .best .now) (s .args .chosen .now) (s .args .plan .now) m (trying-low p) (c .before .before .before .before .before .before .before .before .before .before .before .before .before .if1 .left) (c .before .before .before .before .before .before .before .before .before .before .if2 .left) h
+            held-opens b budget (s .args .t) (s .args .a) (s .args .total .0) (s .args .left) (s .args .best .now) (s .args .chosen .now) (s .args .plan .now) m (trying-low p) (c .before .before .before .before .before .before .before .before .before .before .before .before .before .if1 .left) (rw (c .before .before .before .before .before .before .before .before .before .before .before .before .number .ensures) at (c .before .before .before .before .before .before .before .before .before .before .if2 .left)) h
             (r .walk b budget (record { study = p .study; laid = p .laid; train = h; decided = p .decided; summed = d .summed b (carrying-at p) }) (omega arith));
         fewer = omega (arith, r .fewer);
         kept = alike-trans (alike-set _ _ _ _ (omega (arith, q .train, q .laid .n))) (alike-less (r .kept));
@@ -255,5 +267,5 @@ module _ (t : ℕ) where
 
 pub +open-train+try-choice-spec : {M : Type 1} → statement M
 +open-train+try-choice-spec = close μ-open-train μ-try-choice
-    (λ t. open-train-lts.spec (open-calls t) (open-train-at t) open-train.Post open-train-Inv-loop open-train-μ-loop (o-add-row-from t) (o-mul-row-from t) (o-element-copy-out-row-from t) (o-row-from-requires t) (o-add-d t) (o-mul-d t) (o-element-copy-out-d t) (o-loop-holds t) (o-mul-sum t) (o-array-read-sum t) (o-try-choice-requires t) (o-add-a t) (o-loop-less t) (o-loop-again t) (o-returns t))
-    (λ t. try-choice-lts.spec (try-calls t) (try-choice-at t) try-choice.Post (t-returns t) (t-sub-rest t) (t-returns-2 t) (t-cast-chosen t) (t-element-write-chosen t) (t-add-u t) (t-element-copy-out-if3 t) (t-returns-3 t) (t-carry-requires t) (t-open-train-requires t) (t-returns-4 t))
+    (λ t. open-train-lts.spec (open-calls t) (open-train-at t) open-train.Post open-train-Inv-loop open-train-μ-loop (o-add-row-from t) (o-mul-row-from t) (o-element-copy-out-row-from t) (o-row-from-requires t) (o-add-d t) (o-mul-d t) (o-element-copy-out-d t) (o-loop-holds t) (o-mul-of t) (o-array-read-of t) (o-of-requires t) (o-try-choice-requires t) (o-add-a t) (o-loop-less t) (o-loop-again t) (o-returns t))
+    (λ t. try-choice-lts.spec (try-calls t) (try-choice-at t) try-choice.Post (t-returns t) (t-sub-rest t) (t-number-requires t) (t-returns-2 t) (t-cast-chosen t) (t-element-write-chosen t) (t-add-u t) (t-element-copy-out-if3 t) (t-returns-3 t) (t-carry-requires t) (t-open-train-requires t) (t-returns-4 t))

@@ -1,19 +1,57 @@
--- The tests are those of the definition, in its order.
+-- The tests are those of the definition, in its order: the buffer, then the block's constructor, then the line.
 use borrow.Author.Needs.{needs}
-use borrow.Author.Tests.{not-true, not-false}
-use mathlib.Core.Path.{sym, _∙_}
+use mathlib.Core.Path.{_≡_, sym, _∙_}
+use mathlib.Core.Bool.{true}
+use Rattle.tables.specs.WellFormed.{fresh, wellFormed}
+use Rattle.tables.proofs.Study.{new-block-within, new-block-outside}
 use Rattle.service.proofs.Calls.{small-buffer, malformed-block, refused-line, asked-line}
 use Rattle.service.proofs.entry.respond.Statement.{statement}
 use Rattle.service.proofs.entry.respond.Tie as tie
 
+-- where the buffer was judged, and where the function begins, from the block's constructor on
+abbrev room : tie.After-new → tie.Else1
+room n = n .before .before
+
+abbrev start : tie.After-new → tie.Start
+start n = room n .before .before .before
+
+-- the numbers of a block that was made are well formed, and it says whether they are fresh
+right : (k : tie.After-known) → (wellFormed (start (k .before .before) .args .block .now) ≡ true) × (k .known .given .0 .0 .fresh ≡ fresh (start (k .before .before) .args .block .now))
+right k = new-block-within (start (k .before .before) .args .block .now) (k .known .given .0 .0) (sym (k .before .before .new .ensures) ∙ k .known .given .1)
+
 returns : tie.Need-returns
 returns c = let s = c .before .before .before in small-buffer (s .args .line .now) (s .args .block .now) (s .args .reply .now) (c .if1 .taken)
 
-well-formed-requires : tie.Need-well-formed-requires
-well-formed-requires c κs = search needs
+new-requires : tie.Need-new-requires
+new-requires c κs = search needs
+
+enum-told : tie.Need-enum-told
+enum-told c = search needs
 
 write-refusal-requires : tie.Need-write-refusal-requires
 write-refusal-requires c κs = search needs
+
+enum-known-known : tie.Need-enum-known-known
+enum-known-known c = search needs
+
+read-requires : tie.Need-read-requires
+read-requires c κs = right (c .before .before)
+
+enum-known-r : tie.Need-enum-known-r
+enum-known-r c = search needs
+
+write-refusal-requires-2 : tie.Need-write-refusal-requires-2
+write-refusal-requires-2 c κs = room (c .before .before .before .before .before .before .before .before .before) .if1 .left
+
+enum-known-q : tie.Need-enum-known-q
+enum-known-q c = search needs
+
+answer-request-requires : tie.Need-answer-request-requires
+answer-request-requires c κs =
+    let q = c .before .before .before in
+    let r = q .before .before in
+    let k = r .before .before .before in
+    record { room = room (k .before .before) .if1 .left; right = right k .0; asked = sym (r .read .ensures) ∙ q .q .given .1 }
 
 same-length : tie.Need-same-length
 same-length c = search needs
@@ -22,23 +60,11 @@ same-length-2 : tie.Need-same-length-2
 same-length-2 c = search needs
 
 returns-2 : tie.Need-returns-2
-returns-2 c = let s = c .before .before .before .before .before .before .before .before .before .before in malformed-block (s .args .line .now) (s .args .block .now) (s .args .reply .now) (c .before .before .before .before .before .before .before .if1 .left) (sym (c .before .before .before .before .before .well-formed .ensures) ∙ not-true _ (c .before .before .before .before .if2 .taken)) (c .before .before .write-refusal .ensures)
-
-read-requires : tie.Need-read-requires
-read-requires c κs = sym (c .before .before .well-formed .ensures) ∙ not-false _ (c .before .if2 .left)
-
-enum-known-r : tie.Need-enum-known-r
-enum-known-r c = search needs
-
-write-refusal-requires-2 : tie.Need-write-refusal-requires-2
-write-refusal-requires-2 c κs = search needs
-
-enum-known-q : tie.Need-enum-known-q
-enum-known-q c = search needs
-
-answer-request-requires : tie.Need-answer-request-requires
-answer-request-requires c κs =
-    record { room = c .before .before .before .before .before .before .before .before .before .before .if1 .left; right = sym (c .before .before .before .before .before .before .before .before .well-formed .ensures) ∙ not-false _ (c .before .before .before .before .before .before .before .if2 .left); asked = sym (c .before .before .before .before .before .read .ensures) ∙ c .before .before .before .q .given .1 }
+returns-2 c =
+    let t = c .before .before .before .before in
+    let n = t .before .before in
+    let a = start n .args in
+    malformed-block (a .line .now) (a .block .now) (a .reply .now) (room n .if1 .left) (new-block-outside (a .block .now) (sym (n .new .ensures) ∙ t .enum-told .given .1)) (c .before .before .write-refusal .ensures)
 
 same-length-3 : tie.Need-same-length-3
 same-length-3 c = search needs
@@ -48,8 +74,12 @@ same-length-4 c = search needs
 
 returns-3 : tie.Need-returns-3
 returns-3 c =
-    let s = c .before .before .before .before .before .before .before .before .before .before .before .before .before .before .before in
-    refused-line (s .args .line .now) (s .args .block .now) (s .args .reply .now) (c .before .before .before .before .before .before .before .before .before .before .before .before .if1 .left) (sym (c .before .before .before .before .before .before .before .before .before .before .well-formed .ensures) ∙ not-false _ (c .before .before .before .before .before .before .before .before .before .if2 .left)) (sym (c .before .before .before .before .before .before .before .read .ensures) ∙ c .before .before .before .before .before .r .given .1) (c .before .before .write-refusal2 .ensures)
+    let q = c .before .before .before .before .before in
+    let r = q .before .before in
+    let k = r .before .before .before in
+    let n = k .before .before in
+    let a = start n .args in
+    refused-line (a .line .now) (a .block .now) (a .reply .now) (room n .if1 .left) (right k .0) (sym (r .read .ensures) ∙ q .r .given .1) (c .before .before .write-refusal2 .ensures)
 
 same-length-5 : tie.Need-same-length-5
 same-length-5 c = search needs
@@ -59,24 +89,30 @@ same-length-6 c = search needs
 
 returns-4 : tie.Need-returns-4
 returns-4 c =
-    let s = c .before .before .before .before .before .before .before .before .before .before .before .before .before .before .before .before .before in
-    asked-line (s .args .line .now) (s .args .block .now) (s .args .reply .now) (c .before .before .before .before .before .before .before .before .before .before .before .before .before .before .if1 .left) (sym (c .before .before .before .before .before .before .before .before .before .before .before .before .well-formed .ensures) ∙ not-false _ (c .before .before .before .before .before .before .before .before .before .before .before .if2 .left)) (sym (c .before .before .before .before .before .before .before .before .before .read .ensures) ∙ c .before .before .before .before .before .before .before .q .given .1) (c .before .before .before .answer-request .ensures)
+    let q = c .before .before .before .before .before .before .before in
+    let r = q .before .before in
+    let k = r .before .before .before in
+    let n = k .before .before in
+    let a = start n .args in
+    asked-line (a .line .now) (a .block .now) (a .reply .now) (room n .if1 .left) (right k .0) (sym (r .read .ensures) ∙ q .q .given .1) (c .before .before .before .answer-request .ensures)
 
 pub respond-spec : {M : Type 1} → statement M
 respond-spec =
     tie.close
     (tie.spec
     returns
-    well-formed-requires
+    new-requires
+    enum-told
     write-refusal-requires
-    same-length
-    same-length-2
-    returns-2
+    enum-known-known
     read-requires
     enum-known-r
     write-refusal-requires-2
     enum-known-q
     answer-request-requires
+    same-length
+    same-length-2
+    returns-2
     same-length-3
     same-length-4
     returns-3

@@ -12,9 +12,9 @@ add-requires c κs = search needs
 
 write-outcome-requires : tie.Need-write-outcome-requires
 write-outcome-requires c κs =
-    let s = c .before .before .before .before .before .before in
+    let s = c .before .before .before .before .before .before .before in
     let q = s .args .q in
-    (search needs, omega arith, rw (c .before .before .before .add .ensures .1) (add-study (s .pre .1 .study) (q .train) (q .choice) (q .points) (s .pre .1 .train) (s .pre .1 .choice)))
+    (search needs, omega arith, rw (c .before .before .before .add .ensures .1) (add-study (s .pre .1 .study) (q .train) (q .choice) (q .points .0) (s .pre .1 .train) (s .pre .1 .choice)))
 
 same-length : tie.Need-same-length
 same-length c = search needs
@@ -24,10 +24,10 @@ same-length-2 c = search needs
 
 returns : tie.Need-returns
 returns c =
-    let a = c .before .before .before .before .before .before .before .before .before .args in
+    let a = c .before .before .before .before .before .before .before .before .before .before .args in
     let q = a .q in
-    operated-answers 2 (addOutcome (q .train) (q .choice) (q .points) (a .block .now)) (a .block .now) (addBlock (q .train) (q .choice) (q .points) (a .block .now))
-    (c .before .before .before .before .before .before .add .ensures .0) (c .before .before .before .before .before .before .add .ensures .1) (add-declined (q .train) (q .choice) (q .points) (a .block .now)) (c .before .before .write-outcome .ensures)
+    operated-answers 2 (addOutcome (q .train) (q .choice) (q .points .0) (a .block .now)) (a .block .now) (addBlock (q .train) (q .choice) (q .points .0) (a .block .now))
+    (c .before .before .before .before .before .before .add .ensures .0) (c .before .before .before .before .before .before .add .ensures .1) (add-declined (q .train) (q .choice) (q .points .0) (a .block .now)) (c .before .before .write-outcome .ensures)
 
 pub answer-add-spec : {M : Type 1} → statement M
 answer-add-spec =

@@ -1,6 +1,6 @@
 -- The numbers of an accepted load are inside the line and in range, so that they can be stored; the block that they make is a study.
 use borrow.Author.Needs.{needs}
-use mathlib.Core.Path.{sym, subst, _∙_}
+use mathlib.Core.Path.{refl, sym, subst, _∙_}
 use native.Mathlib.Omega.{arith}
 use Rattle.tables.specs.Numbers.{Numbers, InRange}
 use Rattle.service.proofs.Ready.{load-ready, load-numbers, loaded-study, right-length}
@@ -20,9 +20,6 @@ decode-pairs-requires c κs =
     let r = load-ready (s .pre .0) in
     ((r .digits, r .short, r .fine, r .pairs .0), (s .pre .1 .1 .0 ∙ r .pairs .1, s .pre .1 .1 .1 ∙ r .pairs .1, s .pre .1 .1 .2))
 
-known-requires : tie.Need-known-requires
-known-requires c κs = let r = load-ready (c .before .before .before .before .before .before .before .before .before .before .before .before .before .before .before .before .before .before .before .before .before .before .before .before .before .pre .0) in (r .scale .1, r .scale .2)
-
 load-requires : tie.Need-load-requires
 load-requires c κs =
     let k = c .before .before .before .before .before .before in
@@ -31,7 +28,7 @@ load-requires c κs =
     let f = d .before .before .before .before in
     let s = f .before .before .before .before .before .before .before .before .before in
     let r = load-ready (s .pre .0) in
-    let e = load-numbers r (k .known .ensures) (s .pre .1 .0 .0) (s .pre .1 .0 .1) (f .decode .ensures) (d .decode2 .ensures) (p .decode-pairs .ensures .0) (p .decode-pairs .ensures .1 .0) (p .decode-pairs .ensures .1 .1) in
+    let e = load-numbers r refl (s .pre .1 .0 .0) (s .pre .1 .0 .1) (f .decode .ensures) (d .decode2 .ensures) (p .decode-pairs .ensures .0) (p .decode-pairs .ensures .1 .0) (p .decode-pairs .ensures .1 .1) in
     (right-length (s .args .block .now) (s .pre .0 .right), subst (λ (x : Numbers). InRange x) (sym e) (r .range))
 
 write-bound-requires : tie.Need-write-bound-requires
@@ -42,7 +39,7 @@ write-bound-requires c κs =
     let f = d .before .before .before .before in
     let s = f .before .before .before .before .before .before .before .before .before in
     let r = load-ready (s .pre .0) in
-    let e = load-numbers r (k .known .ensures) (s .pre .1 .0 .0) (s .pre .1 .0 .1) (f .decode .ensures) (d .decode2 .ensures) (p .decode-pairs .ensures .0) (p .decode-pairs .ensures .1 .0) (p .decode-pairs .ensures .1 .1) in
+    let e = load-numbers r refl (s .pre .1 .0 .0) (s .pre .1 .0 .1) (f .decode .ensures) (d .decode2 .ensures) (p .decode-pairs .ensures .0) (p .decode-pairs .ensures .1 .0) (p .decode-pairs .ensures .1 .1) in
     (search needs, omega arith, loaded-study r e (c .before .before .before .load .ensures))
 
 same-length : tie.Need-same-length
@@ -74,7 +71,7 @@ returns c =
     let f = d .before .before .before .before in
     let s = f .before .before .before .before .before .before .before .before .before in
     let r = load-ready (s .pre .0) in
-    let e = load-numbers r (k .known .ensures) (s .pre .1 .0 .0) (s .pre .1 .0 .1) (f .decode .ensures) (d .decode2 .ensures) (p .decode-pairs .ensures .0) (p .decode-pairs .ensures .1 .0) (p .decode-pairs .ensures .1 .1) in
+    let e = load-numbers r refl (s .pre .1 .0 .0) (s .pre .1 .0 .1) (f .decode .ensures) (d .decode2 .ensures) (p .decode-pairs .ensures .0) (p .decode-pairs .ensures .1 .0) (p .decode-pairs .ensures .1 .1) in
     load-answers (s .args .line .now) (s .args .block .now) (s .args .q) e (c .before .before .before .before .before .before .load .ensures) (c .before .before .write-bound .ensures)
 
 pub load-with-spec : {M : Type 1} → statement M
@@ -84,7 +81,6 @@ load-with-spec =
     decode-requires
     decode-requires-2
     decode-pairs-requires
-    known-requires
     load-requires
     write-bound-requires
     same-length

@@ -33,12 +33,15 @@ returns-3 c =
       refused (c .before .is-within3 .ensures) (c .if3 .taken),
     )
 
+number-requires : tie.Need-number-requires
+number-requires c κs = search needs
+
 is-within-requires-4 : tie.Need-is-within-requires-4
 is-within-requires-4 c κs = search needs
 
 returns-4 : tie.Need-returns-4
 returns-4 c =
-    let f = c .before in
+    let f = c .before .before in
     let e = f .before .before in
     let d = e .before .before in
     rw (
@@ -46,7 +49,7 @@ returns-4 c =
       passed (d .before .is-within .ensures) (d .if1 .left),
       passed (e .before .is-within2 .ensures) (e .if2 .left),
       passed (f .before .is-within3 .ensures) (f .if3 .left),
-    ) (c .is-within4 .ensures)
+    ) (rw (c .before .number .ensures) at (c .is-within4 .ensures))
 
 pub head-right-spec : {M : Type 1} → statement M
 head-right-spec =
@@ -58,5 +61,6 @@ head-right-spec =
     returns-2
     is-within-requires-3
     returns-3
+    number-requires
     is-within-requires-4
     returns-4)

@@ -1,6 +1,5 @@
 -- The places are the shape and four tables. The shape is asked first, so that the sizes by which the tables are read are within their limits.
 use borrow.Author.Needs.{needs}
-use borrow.Author.Tests.{not-true}
 use mathlib.Core.Path.{_≡_, sym, _∙_}
 use mathlib.Core.Bool.{true, and-false, and-true}
 use native.Mathlib.Omega.{arith}
@@ -32,58 +31,73 @@ returns-2 c = rw (refused (c .before .pairs-right .ensures) (c .if2 .taken)) (sy
 ordered : (c : tie.Else2) → pairsRight (c .before .before .before .before .args .b .now) ≡ true
 ordered c = passed (c .before .pairs-right .ensures) (c .if2 .left)
 
+number-requires : tie.Need-number-requires
+number-requires c κs = search needs
+
 choices-within-requires : tie.Need-choices-within-requires
-choices-within-requires c κs = let d = c .before .before in (d .before .before .pre, omega arith, shape d)
+choices-within-requires c κs = let d = c .before .before .before in (d .before .before .pre, omega arith, shape d)
 
 returns-3 : tie.Need-returns-3
 unfolding holdsStudy
 returns-3 c =
-    let d = c .before .before .before .before in
-    rw (places-tables (d .before .before .args .b .now) (d .before .before .pre), shape d, ← c .before .choices-within .ensures, not-true (c .before .choices-within .result) (c .if3 .taken))
+    let n = c .before .before in
+    let d = n .before .before .before in
+    rw (places-tables (d .before .before .args .b .now) (d .before .before .pre), shape d, rw (n .number .ensures) at (refused (c .before .choices-within .ensures) (c .if3 .taken)))
 
-loaded-choices : (c : tie.Else3) → choicesWithin (c .before .before .before .before .before .before .args .b .now) loadedChoicesFrom (from-to 0 maxCost) ≡ true
-loaded-choices c = passed (c .before .choices-within .ensures) (c .if3 .left)
+loaded-choices : (c : tie.Else3) → choicesWithin (c .before .before .before .before .before .before .before .args .b .now) loadedChoicesFrom (from-to 0 maxCost) ≡ true
+loaded-choices c = rw (c .before .before .number .ensures) at (passed (c .before .choices-within .ensures) (c .if3 .left))
+
+number-requires-2 : tie.Need-number-requires-2
+number-requires-2 c κs = search needs
 
 choices-within-requires-2 : tie.Need-choices-within-requires-2
-choices-within-requires-2 c κs = let d = c .before .before .before .before in (d .before .before .pre, omega arith, shape d)
+choices-within-requires-2 c κs = let d = c .before .before .before .before .before .before in (d .before .before .pre, omega arith, shape d)
 
 returns-4 : tie.Need-returns-4
 unfolding holdsStudy
 returns-4 c =
-    let f = c .before .before in
-    let d = f .before .before .before .before in
-    rw (places-tables (d .before .before .args .b .now) (d .before .before .pre), shape d, loaded-choices f, ← c .before .choices-within2 .ensures, not-true (c .before .choices-within2 .result) (c .if4 .taken))
+    let n = c .before .before in
+    let f = n .before in
+    let d = f .before .before .before .before .before in
+    rw (places-tables (d .before .before .args .b .now) (d .before .before .pre), shape d, loaded-choices f, rw (n .number2 .ensures) at (refused (c .before .choices-within2 .ensures) (c .if4 .taken)))
 
-held-choices : (c : tie.Else4) → choicesWithin (c .before .before .before .before .before .before .before .before .args .b .now) heldChoicesFrom (from-to 0 maxParts) ≡ true
-held-choices c = passed (c .before .choices-within2 .ensures) (c .if4 .left)
+held-choices : (c : tie.Else4) → choicesWithin (c .before .before .before .before .before .before .before .before .before .before .args .b .now) heldChoicesFrom (from-to 0 maxParts) ≡ true
+held-choices c = rw (c .before .before .number2 .ensures) at (passed (c .before .choices-within2 .ensures) (c .if4 .left))
+
+number-requires-3 : tie.Need-number-requires-3
+number-requires-3 c κs = search needs
 
 entries-within-requires : tie.Need-entries-within-requires
-entries-within-requires c κs = let d = c .before .before .before .before .before .before in (d .before .before .pre, omega arith, shape d)
+entries-within-requires c κs = let d = c .before .before .before .before .before .before .before .before .before in (d .before .before .pre, omega arith, shape d)
 
 returns-5 : tie.Need-returns-5
 unfolding holdsStudy
 returns-5 c =
-    let g = c .before .before in
-    let f = g .before .before in
-    let d = f .before .before .before .before in
-    rw (places-tables (d .before .before .args .b .now) (d .before .before .pre), shape d, loaded-choices f, held-choices g, ← c .before .entries-within .ensures, not-true (c .before .entries-within .result) (c .if5 .taken))
+    let n = c .before .before in
+    let g = n .before in
+    let f = g .before .before .before in
+    let d = f .before .before .before .before .before in
+    rw (places-tables (d .before .before .args .b .now) (d .before .before .pre), shape d, loaded-choices f, held-choices g, rw (n .number3 .ensures) at (refused (c .before .entries-within .ensures) (c .if5 .taken)))
 
-loaded-entries : (c : tie.Else5) → entriesWithin (c .before .before .before .before .before .before .before .before .before .before .args .b .now) loadedEntriesFrom (from-to 0 maxCost) ≡ true
-loaded-entries c = passed (c .before .entries-within .ensures) (c .if5 .left)
+loaded-entries : (c : tie.Else5) → entriesWithin (c .before .before .before .before .before .before .before .before .before .before .before .before .before .args .b .now) loadedEntriesFrom (from-to 0 maxCost) ≡ true
+loaded-entries c = rw (c .before .before .number3 .ensures) at (passed (c .before .entries-within .ensures) (c .if5 .left))
+
+number-requires-4 : tie.Need-number-requires-4
+number-requires-4 c κs = search needs
 
 entries-within-requires-2 : tie.Need-entries-within-requires-2
-entries-within-requires-2 c κs = let d = c .before .before .before .before .before .before .before .before in (d .before .before .pre, omega arith, shape d)
+entries-within-requires-2 c κs = let d = c .before .before .before .before .before .before .before .before .before .before .before .before in (d .before .before .pre, omega arith, shape d)
 
 returns-6 : tie.Need-returns-6
 unfolding holdsStudy
 returns-6 c =
-    let h = c .before in
-    let g = h .before .before in
-    let f = g .before .before in
-    let e = f .before .before in
+    let h = c .before .before in
+    let g = h .before .before .before in
+    let f = g .before .before .before in
+    let e = f .before .before .before in
     let d = e .before .before in
     rw (places-tables (d .before .before .args .b .now) (d .before .before .pre), shape d, loaded-choices f, held-choices g, loaded-entries h, ordered e)
-    (c .entries-within2 .ensures ∙ sym (and-true _))
+    (rw (c .before .number4 .ensures) at (c .entries-within2 .ensures) ∙ sym (and-true _))
 
 pub holds-study-spec : {M : Type 1} → statement M
 holds-study-spec =
@@ -93,11 +107,15 @@ holds-study-spec =
     returns
     pairs-right-requires
     returns-2
+    number-requires
     choices-within-requires
     returns-3
+    number-requires-2
     choices-within-requires-2
     returns-4
+    number-requires-3
     entries-within-requires
     returns-5
+    number-requires-4
     entries-within-requires-2
     returns-6)
