@@ -1,8 +1,9 @@
 -- Document 01, 'Lines': where the fields of each kind stand, in bytes from the line's beginning, and what they hold.
 use mathlib.Core.List.{List}
 use Prim.Native.Nat.{ℕ, zero, suc, _+_, _*_}
+use lib.IntN.{ℤ}
 use Rattle.tables.specs.Sum.{sum}
-use Rattle.frames.specs.Fields.{field}
+use Rattle.frames.specs.Fields.{field, signedField}
 
 -- 'The first byte is the kind'
 abbrev pub kindOf : List ℕ → ℕ
@@ -81,6 +82,13 @@ liftsAt = 1
 
 abbrev pub movesAt : ℕ → ℕ
 movesAt n = liftsAt + moveWidth * n
+
+-- u_i of train i, and move k of a line with n lifts: 'All are two's complement'
+abbrev pub shiftLift : List ℕ → ℕ → ℤ
+shiftLift l i = signedField l (liftsAt + moveWidth * i) moveWidth
+
+abbrev pub shiftMove : List ℕ → ℕ → ℕ → ℤ
+shiftMove l n k = signedField l (movesAt n + moveWidth * k) moveWidth
 
 -- ---- 05 certify: 'W (3), weights w_i(a) (3 each), weights z_ij(a,b) (3 each)'
 

@@ -80,9 +80,79 @@ never : (t : Bool) → t ≡ true → t ≡ false → ⊥
 never t p q = let z : _≡_ {A = ℕ} 0 1 = cc in omega arith
 
 -- the constant's own limits
-head-place : (n : ℕ) → n ≤ maxParts → within (headLimits constantPlace) (pos n) ≡ true
+head-place : (z : ℤ) → within (from-to 0 maxParts) z ≡ true → within (headLimits constantPlace) z ≡ true
 unfolding headLimits
-head-place n h = within-pos (from-to 0 maxParts) n (omega arith) h
+head-place z e = e
+
+-- ---- a changed block whose used numbers are from 0 to L
+
+-- c has the shape of b, differs from it only where a plan pays, and has there a constant, choices and entries from 0 to L
+module _ {b : List ℤ} (s : Study b) (c : List ℤ) (e : SameShape b c) (unmet : (p : ℕ) → Unmet b p → at c p ≡ at b p)
+    (constant-in : within (from-to 0 maxParts) (at c constantPlace) ≡ true)
+    (choice-in : (i a : ℕ) → i < trains b → a < size b i → within (from-to 0 maxParts) (at c (heldChoicePlace i a)) ≡ true)
+    (entry-in : (k a d : ℕ) → k < pairs b → a < size b (first b k) → d < size b (second b k) → within (from-to 0 maxParts) (at c (heldEntryPlace k a d)) ≡ true) where
+  by-use : (t : Bool) (p : ℕ) → p < blockLength → limitsAt b p ≡ usedIf t (from-to 0 maxParts) → (t ≡ true → within (from-to 0 maxParts) (at c p) ≡ true) → (t ≡ false → Unmet b p)
+      → within (limitsAt b p) (at c p) ≡ true
+  by-use true p h z f g = rw z (f refl)
+  by-use false p h z f g = rw (unmet p (g refl)) (s .places p h)
+
+  held-choice : (o : ℕ) → o < maxTrains * maxChoices → within (limitsAt b (heldChoicesFrom + o)) (at c (heldChoicesFrom + o)) ≡ true
+  held-choice o h = by-use (choiceUsed b o) (heldChoicesFrom + o) (omega arith) (limits-held-choices b o h) taken free
+    where
+      taken : choiceUsed b o ≡ true → within (from-to 0 maxParts) (at c (heldChoicesFrom + o)) ≡ true
+      taken t =
+          let u = offset-choice b o t in
+          let z : heldChoicePlace (o / 8) (o % 8) ≡ heldChoicesFrom + o = omega arith in
+          rw z at (choice-in (o / 8) (o % 8) (u .0) (u .1))
+
+      free : choiceUsed b o ≡ false → Unmet b (heldChoicesFrom + o)
+      free t =
+          record {
+            constant = λ z. omega arith;
+            choices = λ i a l q z.
+                let g : maxChoices * i + a ≡ o = omega arith in
+                never (choiceUsed b o) (ap (choiceUsed b) (sym g) ∙ choice-used b i a (omega (arith, size-range s i l)) ∙ rw (lt-ltb i (trains b) l, lt-ltb a (size b i) q)) t;
+            entries = λ k a d l q r z. omega arith;
+          }
+
+  held-entry : (o : ℕ) → o < maxPairs * entriesOfPair → within (limitsAt b (heldEntriesFrom + o)) (at c (heldEntriesFrom + o)) ≡ true
+  held-entry o h = by-use (entryUsed b o) (heldEntriesFrom + o) (omega arith) (limits-held-entries b o) taken free
+    where
+      taken : entryUsed b o ≡ true → within (from-to 0 maxParts) (at c (heldEntriesFrom + o)) ≡ true
+      taken t =
+          let u = offset-entry b o t in
+          let z : heldEntryPlace (o / 64) (o % 64 / 8) (o % 8) ≡ heldEntriesFrom + o = omega arith in
+          rw z at (entry-in (o / 64) (o % 64 / 8) (o % 8) (u .0) (u .1) (u .2))
+
+      free : entryUsed b o ≡ false → Unmet b (heldEntriesFrom + o)
+      free t =
+          record {
+            constant = λ z. omega arith;
+            choices = λ i a l q z. omega (arith, size-range s i l, trains-range s);
+            entries = λ k a d l q r z.
+                let g : entriesOfPair * k + (maxChoices * a + d) ≡ o = omega arith in
+                let m = size-range s (first b k) (first-below-trains s k l) in
+                let n = size-range s (second b k) (second-below-trains s k l) in
+                never (entryUsed b o)
+                (ap (entryUsed b) (sym g) ∙ entry-used b k a d (omega arith) (omega arith)
+                ∙ rw (lt-ltb k (pairs b) l, lt-ltb a (size b (first b k)) q, lt-ltb d (size b (second b k)) r)) t;
+          }
+
+  pub inside-study : Study c
+  inside-study = study-from e s at-place
+    where
+      loaded : (p : ℕ) → p < blockLength → Loaded p → within (limitsAt b p) (at c p) ≡ true
+      loaded p h l = rw (unmet p (loaded-unmet (study-shapely s) l)) (s .places p h)
+
+      at-place : (p : ℕ) → p < blockLength → (p ≡ constantPlace) ⊎ (loadedChoicesFrom ≤ p) → within (limitsAt b p) (at c p) ≡ true
+      at-place p h (inl z) = rw (z, limits-head b constantPlace (omega arith)) (head-place (at c constantPlace) constant-in)
+      at-place p h (inr l) =
+          dite (decLt p heldChoicesFrom) (λ (q : p < heldChoicesFrom). loaded p h (record { table = inl (record { low = l; high = q }) }))
+          (λ n. dite (decLt p loadedEntriesFrom)
+          (λ (q : p < loadedEntriesFrom). let z : heldChoicesFrom + (p - heldChoicesFrom) ≡ p = omega arith in rw z at (held-choice (p - heldChoicesFrom) (omega arith)))
+          (λ m. dite (decLt p heldEntriesFrom)
+          (λ (q : p < heldEntriesFrom). loaded p h (record { table = inr (record { low = omega arith; high = q }) }))
+          (λ o. let z : heldEntriesFrom + (p - heldEntriesFrom) ≡ p = omega arith in rw z at (held-entry (p - heldEntriesFrom) (omega arith)))))
 
 -- ---- plans through a cost
 
@@ -133,68 +203,11 @@ module _ {b : List ℤ} (s : Study b) where
           ap (heldEntry c k a) v,
         )
 
-    -- ---- each place
-
-    by-use : (t : Bool) (p : ℕ) → p < blockLength → limitsAt b p ≡ usedIf t (from-to 0 maxParts) → (t ≡ true → figure c p ≤ maxParts) → (t ≡ false → Unmet b p)
-        → within (limitsAt b p) (at c p) ≡ true
-    by-use true p h z f g = rw (z, natural p) (within-pos (from-to 0 maxParts) (figure c p) (omega arith) (f refl))
-    by-use false p h z f g = rw (unmet p (g refl)) (s .places p h)
-
-    held-choice : (o : ℕ) → o < maxTrains * maxChoices → within (limitsAt b (heldChoicesFrom + o)) (at c (heldChoicesFrom + o)) ≡ true
-    held-choice o h = by-use (choiceUsed b o) (heldChoicesFrom + o) (omega arith) (limits-held-choices b o h) taken free
-      where
-        taken : choiceUsed b o ≡ true → figure c (heldChoicesFrom + o) ≤ maxParts
-        taken t =
-            let u = offset-choice b o t in
-            let z : heldChoicePlace (o / 8) (o % 8) ≡ heldChoicesFrom + o = omega arith in
-            omega (arith, choice-most (o / 8) (o % 8) (u .0) (u .1), ap (figure c) z)
-
-        free : choiceUsed b o ≡ false → Unmet b (heldChoicesFrom + o)
-        free t =
-            record {
-              constant = λ z. omega arith;
-              choices = λ i a l q z.
-                  let g : maxChoices * i + a ≡ o = omega arith in
-                  never (choiceUsed b o) (ap (choiceUsed b) (sym g) ∙ choice-used b i a (omega (arith, size-range s i l)) ∙ rw (lt-ltb i (trains b) l, lt-ltb a (size b i) q)) t;
-              entries = λ k a d l q r z. omega arith;
-            }
-
-    held-entry : (o : ℕ) → o < maxPairs * entriesOfPair → within (limitsAt b (heldEntriesFrom + o)) (at c (heldEntriesFrom + o)) ≡ true
-    held-entry o h = by-use (entryUsed b o) (heldEntriesFrom + o) (omega arith) (limits-held-entries b o) taken free
-      where
-        taken : entryUsed b o ≡ true → figure c (heldEntriesFrom + o) ≤ maxParts
-        taken t =
-            let u = offset-entry b o t in
-            let z : heldEntryPlace (o / 64) (o % 64 / 8) (o % 8) ≡ heldEntriesFrom + o = omega arith in
-            omega (arith, entry-most (o / 64) (o % 64 / 8) (o % 8) (u .0) (u .1) (u .2), ap (figure c) z)
-
-        free : entryUsed b o ≡ false → Unmet b (heldEntriesFrom + o)
-        free t =
-            record {
-              constant = λ z. omega arith;
-              choices = λ i a l q z. omega (arith, size-range s i l, trains-range s);
-              entries = λ k a d l q r z.
-                  let g : entriesOfPair * k + (maxChoices * a + d) ≡ o = omega arith in
-                  let m = size-range s (first b k) (first-below-trains s k l) in
-                  let n = size-range s (second b k) (second-below-trains s k l) in
-                  never (entryUsed b o)
-                  (ap (entryUsed b) (sym g) ∙ entry-used b k a d (omega arith) (omega arith)
-                  ∙ rw (lt-ltb k (pairs b) l, lt-ltb a (size b (first b k)) q, lt-ltb d (size b (second b k)) r)) t;
-            }
-
     -- a block of the same shape whose numbers are natural, changed only where a plan pays, holds a study where no plan's total is above L
     pub reach-study : Study c
-    reach-study = study-from e s at-place
+    reach-study =
+        inside-study s c e unmet (low-place constantPlace constant-most) (λ i a h q. low-place (heldChoicePlace i a) (choice-most i a h q))
+        (λ k a d h q r. low-place (heldEntryPlace k a d) (entry-most k a d h q r))
       where
-        loaded : (p : ℕ) → p < blockLength → Loaded p → within (limitsAt b p) (at c p) ≡ true
-        loaded p h l = rw (unmet p (loaded-unmet (study-shapely s) l)) (s .places p h)
-
-        at-place : (p : ℕ) → p < blockLength → (p ≡ constantPlace) ⊎ (loadedChoicesFrom ≤ p) → within (limitsAt b p) (at c p) ≡ true
-        at-place p h (inl z) = rw (z, limits-head b constantPlace (omega arith), natural constantPlace) (head-place (figure c constantPlace) constant-most)
-        at-place p h (inr l) =
-            dite (decLt p heldChoicesFrom) (λ (q : p < heldChoicesFrom). loaded p h (record { table = inl (record { low = l; high = q }) }))
-            (λ n. dite (decLt p loadedEntriesFrom)
-            (λ (q : p < loadedEntriesFrom). let z : heldChoicesFrom + (p - heldChoicesFrom) ≡ p = omega arith in rw z at (held-choice (p - heldChoicesFrom) (omega arith)))
-            (λ m. dite (decLt p heldEntriesFrom)
-            (λ (q : p < heldEntriesFrom). loaded p h (record { table = inr (record { low = omega arith; high = q }) }))
-            (λ o. let z : heldEntriesFrom + (p - heldEntriesFrom) ≡ p = omega arith in rw z at (held-entry (p - heldEntriesFrom) (omega arith)))))
+        low-place : (p : ℕ) → figure c p ≤ maxParts → within (from-to 0 maxParts) (at c p) ≡ true
+        low-place p h = rw (natural p) (within-pos (from-to 0 maxParts) (figure c p) (omega arith) h)

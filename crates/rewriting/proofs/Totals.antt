@@ -15,15 +15,12 @@ use Rattle.tables.proofs.Range.{below-suc}
 use Rattle.tables.proofs.Plans.{same-shape-total}
 use Rattle.rewriting.specs.declared.sides.Run.{Run}
 use Rattle.rewriting.specs.declared.sides.Side.the-variants.{Rows, Columns}
+use Rattle.rewriting.specs.Whole.{sumℤ}
 use Rattle.rewriting.specs.Moves.{Shapely, moveRun, lineRun, choicesRun, Filled}
 use Rattle.rewriting.proofs.Runs.{Met, Missed, move-to, move-met, move-other}
 use Rattle.rewriting.proofs.Shape.{study-figure, study-shapely, study-filled, Project, line, unary, lines-most, Fair, project-fair, fair-run, Asked, Moved, none, move, moved-shape}
 
 -- ---- sums of whole numbers
-
-unfoldable pub sumℤ : ℕ → (ℕ → ℤ) → ℤ
-sumℤ zero f = pos 0
-sumℤ (suc n) f = sumℤ n f +ℤ f n
 
 pub sumℤ-cong : (n : ℕ) (f g : ℕ → ℤ) → ((i : ℕ) → i < n → f i ≡ g i) → sumℤ n f ≡ sumℤ n g
 unfolding sumℤ

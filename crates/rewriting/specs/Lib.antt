@@ -1,2 +1,4 @@
+pub mod Whole
+pub mod Ends
 pub mod Outcome
 pub mod Moves

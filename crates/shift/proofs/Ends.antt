@@ -15,7 +15,7 @@ use Rattle.shift.specs.Shift.{shifted, shiftBlock}
 use Rattle.shift.proofs.Rooms.{shift-moved}
 
 module _ {b : List ℤ} (s : Study b) (lifts moves : List ℤ) where
-  shift-chain : Moved Any b allMoves (shifted lifts moves b)
+  pub shift-chain : Moved Any b allMoves (shifted lifts moves b)
   shift-chain = shift-moved (study-shapely s) lifts moves (λ r x i. tt) (λ r x i. tt)
 
   pub shift-same-shape : SameShape b (shifted lifts moves b)

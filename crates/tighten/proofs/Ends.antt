@@ -15,7 +15,7 @@ use Rattle.rewriting.proofs.Shape.{study-shapely, study-filled, study-natural, 
 use Rattle.rewriting.proofs.Totals.{moved-keeps-total}
 use Rattle.rewriting.proofs.Reach.{moved-unmet, Loaded, loaded-unmet, reach-study}
 use Rattle.rewriting.proofs.Judged.{judged-cases}
-use Rattle.tighten.specs.Tighten.{trainTightened, pairsTightened, tightened, tightenBlock}
+use Rattle.tighten.specs.Tighten.{pairTightened, trainTightened, pairsTightened, tightened, tightenBlock}
 use Rattle.tighten.proofs.Falls.{Falling, falling-room, falling-natural, falling-pairs, falling-trains, Tight, moved-falling, moved-raises, Zero, zero-as, trains-zero, pairs-tightened, trains-tightened}
 
 module _ {b : List ℤ} (s : Study b) where
@@ -25,13 +25,17 @@ module _ {b : List ℤ} (s : Study b) where
   abbrev pairs-falling : Falling heldEntriesFrom maxParts (maxParts + (0 + 16 * pairs b) * maxParts) (pairsTightened b)
   pairs-falling = moved-falling (study-shapely s) (falling-pairs (study-natural s) (study-room s)) pairs-chain
 
+  -- no number falls below 0 in the pairs' turns
+  pub pairs-natural : (m : ℕ) → m ≤ pairs b → (p : ℕ) → at (iter m pairTightened b) p ≡ pos (figure (iter m pairTightened b) p)
+  pairs-natural m h = moved-falling (study-shapely s) (falling-pairs (study-natural s) (study-room s)) (pairs-tightened (study-shapely s) m 0 b h none) .natural
+
   between : Shapely (pairsTightened b)
   between = shapely-kept (moved-shape (study-shapely s) pairs-chain) (study-shapely s)
 
   trains-chain : (m : ℕ) → m ≤ trains (pairsTightened b) → Moved (Tight heldChoicesFrom) (pairsTightened b) (0 + m) (iter m trainTightened (pairsTightened b))
   trains-chain m h = trains-tightened between m 0 (pairsTightened b) h none
 
-  tighten-chain : Moved Any b allMoves (tightened b)
+  pub tighten-chain : Moved Any b allMoves (tightened b)
   unfolding tightened
   tighten-chain =
       moved-more (omega (arith, study-shapely s .pairs, between .trains))

@@ -1,1 +1,2 @@
 pub mod Tighten
+pub mod Leasts

@@ -1,0 +1,105 @@
+-- A shift ends where document 01's three equations say, because its turns are those of Turns.antt of `rewriting`, and what goes in each is a number of the line, whatever the block is.
+-- For every size; b is a study.
+use mathlib.Core.Path.{_≡_, ap, ap₂, _∙_}
+use mathlib.Core.List.{List}
+use mathlib.Core.Logic.{_↔_}
+use Prim.Native.Nat.{ℕ, _+_, _<_}
+use native.Mathlib.Omega.{arith}
+use lib.IntN.{ℤ, pos, _+ℤ_, _-ℤ_}
+use Rattle.tables.specs.Block.{constantPlace, heldChoicePlace, heldEntryPlace, at, figure, trains, pairs, size, first, second}
+use Rattle.tables.specs.Runs.{movesBefore}
+use Rattle.tables.specs.WellFormed.{Study}
+use Rattle.tables.proofs.Study.{SameShape, same-pairs, first-below-second}
+use Rattle.operations.specs.declared.outcome.Outcome.the-variants.{Done, PartsOutside}
+use Rattle.operations.specs.Fold.{iter}
+use Rattle.rewriting.specs.declared.sides.Side.the-variants.{Rows, Columns}
+use Rattle.rewriting.specs.Whole.{sumℤ}
+use Rattle.rewriting.specs.Moves.{Shapely}
+use Rattle.rewriting.specs.Ends.{endsOf, SameEnds, Outside, SomeEnd}
+use Rattle.rewriting.proofs.Shape.{study-figure, study-shapely, study-filled, shape-same, same-lines}
+use Rattle.rewriting.proofs.Turns.{pairTurned, trains-shape, trains-constant, trains-choice, trains-high, pairs-constant, pairs-choice, pairs-entry}
+use Rattle.rewriting.proofs.Reach.{Unmet, moved-unmet}
+use Rattle.rewriting.proofs.Judged.{done-unless, judged-outside, judged-ends}
+use Rattle.shift.specs.Shift.{lifted, linesShifted, pairShifted, shifted, shiftOutcome, shiftBlock}
+use Rattle.shift.specs.Equations.{rowMove, columnMove, movesOf, shiftEnds}
+use Rattle.shift.proofs.Rooms.{same-start, start-within}
+use Rattle.shift.proofs.Ends.{shift-same-shape, shift-chain}
+
+module _ {b : List ℤ} (o : Study b) (lifts moves : List ℤ) where
+  s : Shapely b
+  s = study-shapely o
+
+  abbrev lift : ℕ → List ℤ → ℤ
+  lift i z = at lifts i
+
+  -- after the lifts
+  abbrev c : List ℤ
+  c = lifted lifts b
+
+  v : SameShape b c
+  v = trains-shape s lift b (shape-same b)
+
+  -- the turn of pair k, which finds the shape of b
+  abbrev turn : ℕ → List ℤ → List ℤ
+  turn k = pairShifted moves (movesBefore c k) k
+
+  abbrev row : ℕ → ℕ → List ℤ → ℤ
+  row k a z = rowMove (at moves) b k a
+
+  abbrev column : ℕ → ℕ → List ℤ → ℤ
+  column k d z = columnMove (at moves) b k d
+
+  turn-is : (k : ℕ) (z : List ℤ) → k < pairs b → SameShape b z → turn k z ≡ pairTurned k (row k) (column k) z
+  unfolding pairShifted
+  turn-is k z h u =
+      ap₂ (λ (n l : ℕ). linesShifted Columns moves (n + l) k (linesShifted Rows moves n k z)) (same-start v s k (omega (arith, s .pairs)))
+      (same-lines u s k (omega (arith, s .pairs)) Rows)
+
+  shifted-is : shifted lifts moves b ≡ iter (pairs b) turn c
+  unfolding shifted
+  shifted-is = ap (λ (n : ℕ). iter n turn c) (same-pairs v)
+
+  by-shifted : (p : ℕ) {y z : ℤ} → at (iter (pairs b) turn c) p ≡ y → y ≡ z → at (shifted lifts moves b) p ≡ z
+  by-shifted p e f = ap (λ (x : List ℤ). at x p) shifted-is ∙ e ∙ f
+
+  natural : (p : ℕ) → at b p ≡ pos (figure b p)
+  natural p = study-figure o p .0
+
+  -- u and p are the lifts and the moves, as far as the trains and pairs of b go
+  module _ (u p : ℕ → ℤ) (lifts-are : (i : ℕ) → i < trains b → at lifts i ≡ u i) (moves-are : (n : ℕ) → n < movesBefore b (pairs b) → at moves n ≡ p n) where
+    row-is : (k a : ℕ) → k < pairs b → a < size b (first b k) → rowMove (at moves) b k a ≡ rowMove p b k a
+    row-is k a h q = moves-are (movesBefore b k + a) (omega (arith, start-within b k (pairs b) h))
+
+    column-is : (k d : ℕ) → k < pairs b → d < size b (second b k) → columnMove (at moves) b k d ≡ columnMove p b k d
+    column-is k d h q = moves-are (movesBefore b k + size b (first b k) + d) (omega (arith, start-within b k (pairs b) h))
+
+    -- the three equations, of the end before it is judged
+    pub shifted-ends : SameEnds b (endsOf (shifted lifts moves b)) (shiftEnds u p b)
+    shifted-ends =
+        record {
+          constant = by-shifted constantPlace (pairs-constant s (first-below-second o) row column turn turn-is c v)
+              (trains-constant s lift b (shape-same b) u (λ i h z w e. lifts-are i h) ∙ ap (λ (z : ℤ). z +ℤ sumℤ (trains b) u) (natural constantPlace));
+          choice = λ i a h q. by-shifted (heldChoicePlace i a)
+              (pairs-choice s (first-below-second o) row column turn turn-is c v (rowMove p b) (columnMove p b) (λ k g x l z w e. row-is k x g l) (λ k g x l z w e. column-is k x g l) i a h q)
+              (ap (λ (z : ℤ). z +ℤ movesOf p b i a)
+              (trains-choice s lift b (shape-same b) u (λ j g z w e. lifts-are j g) i a h q ∙ ap (λ (z : ℤ). z -ℤ u i) (natural (heldChoicePlace i a))));
+          entry = λ k a d h q r. by-shifted (heldEntryPlace k a d)
+              (pairs-entry s (first-below-second o) row column turn turn-is c v (rowMove p b) (columnMove p b) (λ l g x m z w e. row-is l x g m) (λ l g x m z w e. column-is l x g m) k a d h q r)
+              (ap (λ (z : ℤ). (z -ℤ rowMove p b k a) -ℤ columnMove p b k d)
+              (trains-high s lift b (shape-same b) (heldEntryPlace k a d) (omega arith) ∙ natural (heldEntryPlace k a d)));
+        }
+
+    unmet : (n : ℕ) → Unmet b n → at (shifted lifts moves b) n ≡ at b n
+    unmet n m = moved-unmet (study-filled o) m (shift-chain o lifts moves)
+
+    -- 12, 'c0 or an entry would end below 0 or above L': exactly then. Not below 0, of choices and entries, are the two conditions of Theorem 4.2
+    pub shift-declined : (shiftOutcome lifts moves b ≡ PartsOutside) ↔ SomeEnd Outside b (shiftEnds u p b)
+    shift-declined = judged-outside o (shifted lifts moves b) (shift-same-shape o lifts moves) unmet (shiftEnds u p b) shifted-ends
+
+    -- and accepted exactly where none does
+    pub shift-accepted : (shiftOutcome lifts moves b ≡ Done) ↔ (SomeEnd Outside b (shiftEnds u p b) → ⊥)
+    shift-accepted = done-unless (shifted lifts moves b) shift-declined
+
+    -- the three equations, of the accepted block
+    pub shift-ends : shiftOutcome lifts moves b ≡ Done → SameEnds b (endsOf (shiftBlock lifts moves b)) (shiftEnds u p b)
+    shift-ends = judged-ends o (shifted lifts moves b) (shift-same-shape o lifts moves) unmet (shiftEnds u p b) shifted-ends
