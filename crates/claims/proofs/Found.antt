@@ -26,8 +26,8 @@ module _ {g : Ledger} {b : List ℤ} (k : Keeps g b) where
   ceiling-holds w e r is =
       certify-rival w (k .study) e r
       (rival-cong (shapeOf b) (scaledCost g) (heldTotal b) r (λ x p. sym (total-is k x (plan-out k x p)))
-      (rival-shape (g .shape) (shapeOf b) (scaledCost g) r (k .trains-same) (k .pairs-same) (λ j h. k .firsts-same j (omega (arith, k .pairs-same)))
-      (λ j h. k .seconds-same j (omega (arith, k .pairs-same))) (λ x p. plan-out k x p) is))
+      (rival-shape (g .shape) (shapeOf b) (scaledCost g) r (k .same .trains-same) (k .same .pairs-same) (λ j h. k .same .firsts-same j (omega (arith, k .same .pairs-same)))
+      (λ j h. k .same .seconds-same j (omega (arith, k .same .pairs-same))) (λ x p. plan-out k x p) is))
 
   -- every plan's total is a whole number of points
   points : (x : ℕ → ℕ) → IsPlan (shapeOf b) x → heldTotal b x ≡ scale b * costOf g x

@@ -7,7 +7,7 @@ use native.Mathlib.Nat.{mul-le-mul}
 use lib.IntN.{ℤ}
 use Rattle.units.proofs.Bound.{rounded-least}
 use Rattle.tables.specs.Sum.{sum}
-use Rattle.tables.specs.Block.{maxTrains, maxPairs, maxCost, maxParts, trains, scale, pairs, constant, size, first, second, loadedChoice, loadedEntry}
+use Rattle.tables.specs.Block.{maxTrains, maxPairs, maxCost, maxParts, trains, scale, pairs, constant, first, second, loadedChoice, loadedEntry}
 use Rattle.tables.specs.WellFormed.{Study}
 use Rattle.tables.specs.Plans.{Shape, Costs, IsPlan, choiceTotal, pairTotal, total, shapeOf, loadedCosts, heldCosts, loadedTotal, heldTotal}
 use Rattle.tables.proofs.Plans.{constant-at-most-total}
@@ -15,31 +15,24 @@ use Rattle.tables.proofs.Study.{trains-range, scale-range, pairs-range, first-b
 use Rattle.tables.proofs.Sum.{sum-cong, sum-most}
 use Rattle.replies.specs.Replies.{boundOf}
 use Rattle.claims.specs.Ledger.{Ledger, costOf}
-use Rattle.claims.specs.Claims.{PlanOf, scaledCost, AfterList}
+use Rattle.claims.specs.Claims.{PlanOf, scaledCost, SameStudy, AfterList}
 
--- the block holds a study with the ledger's shape and the ledger's costs as H, and every plan's total in T is s times its total in H
+-- the block holds the ledger's study, and every plan's total in T is s times its total in H
 pub record Keeps (g : Ledger) (b : List ℤ) : Type 0 where
   pub study : Study b
-  pub trains-same : trains b ≡ g .shape .trains
-  pub scale-same : scale b ≡ g .scale
-  pub sizes-same : (i : ℕ) → i < trains b → size b i ≡ g .shape .size i
-  pub pairs-same : pairs b ≡ g .shape .pairs
-  pub firsts-same : (k : ℕ) → k < pairs b → first b k ≡ g .shape .first k
-  pub seconds-same : (k : ℕ) → k < pairs b → second b k ≡ g .shape .second k
+  pub same : SameStudy g b
   pub no-constant : g .costs .constant ≡ 0
-  pub choices-same : (i a : ℕ) → i < trains b → a < size b i → loadedChoice b i a ≡ g .costs .choice i a
-  pub entries-same : (k a c : ℕ) → k < pairs b → a < size b (first b k) → c < size b (second b k) → loadedEntry b k a c ≡ g .costs .pair k a c
   pub scaled : (x : ℕ → ℕ) → IsPlan (shapeOf b) x → heldTotal b x ≡ scale b * loadedTotal b x
 
 module _ {g : Ledger} {b : List ℤ} (k : Keeps g b) where
   -- the ledger's plans are the block's
   pub plan-in : (x : ℕ → ℕ) → PlanOf g x → IsPlan (shapeOf b) x
   unfolding IsPlan shapeOf
-  plan-in x p i h = omega (arith, p i (omega (arith, k .trains-same)), k .sizes-same i h)
+  plan-in x p i h = omega (arith, p i (omega (arith, k .same .trains-same)), k .same .sizes-same i h)
 
   pub plan-out : (x : ℕ → ℕ) → IsPlan (shapeOf b) x → PlanOf g x
   unfolding IsPlan shapeOf
-  plan-out x p i h = let q : i < trains b = omega (arith, k .trains-same) in omega (arith, p i q, k .sizes-same i q)
+  plan-out x p i h = let q : i < trains b = omega (arith, k .same .trains-same) in omega (arith, p i q, k .same .sizes-same i q)
 
   -- a plan's cost by the ledger is its total in H
   pub cost-is : (x : ℕ → ℕ) → IsPlan (shapeOf b) x → costOf g x ≡ loadedTotal b x
@@ -48,41 +41,32 @@ module _ {g : Ledger} {b : List ℤ} (k : Keeps g b) where
       omega (
         arith,
         k .no-constant,
-        ap (λ (n : ℕ). sum n (λ i. g .costs .choice i (x i))) (k .trains-same),
-        sum-cong (trains b) (λ i. loadedChoice b i (x i)) (λ i. g .costs .choice i (x i)) (λ i h. k .choices-same i (x i) h (p i h)),
-        ap (λ (m : ℕ). sum m (λ j. g .costs .pair j (x (g .shape .first j)) (x (g .shape .second j)))) (k .pairs-same),
+        ap (λ (n : ℕ). sum n (λ i. g .costs .choice i (x i))) (k .same .trains-same),
+        sum-cong (trains b) (λ i. loadedChoice b i (x i)) (λ i. g .costs .choice i (x i)) (λ i h. k .same .choices-same i (x i) h (p i h)),
+        ap (λ (m : ℕ). sum m (λ j. g .costs .pair j (x (g .shape .first j)) (x (g .shape .second j)))) (k .same .pairs-same),
         sum-cong (pairs b) (λ j. loadedEntry b j (x (first b j)) (x (second b j))) (λ j. g .costs .pair j (x (g .shape .first j)) (x (g .shape .second j))) at-pair,
       )
     where
       at-pair : (j : ℕ) → j < pairs b → loadedEntry b j (x (first b j)) (x (second b j)) ≡ g .costs .pair j (x (g .shape .first j)) (x (g .shape .second j))
       at-pair j h =
-          k .entries-same j _ _ h (p (first b j) (first-below-trains (k .study) j h)) (p (second b j) (second-below-trains (k .study) j h))
-          ∙ ap₂ (λ (u v : ℕ). g .costs .pair j (x u) (x v)) (k .firsts-same j h) (k .seconds-same j h)
+          k .same .entries-same j _ _ h (p (first b j) (first-below-trains (k .study) j h)) (p (second b j) (second-below-trains (k .study) j h))
+          ∙ ap₂ (λ (u v : ℕ). g .costs .pair j (x u) (x v)) (k .same .firsts-same j h) (k .same .seconds-same j h)
 
   -- every plan's total is s times its cost
   pub total-is : (x : ℕ → ℕ) → PlanOf g x → heldTotal b x ≡ scaledCost g x
   total-is x p =
       let q = plan-in x p in
-      k .scaled x q ∙ ap₂ (λ (u v : ℕ). u * v) (k .scale-same) (sym (cost-is x q))
+      k .scaled x q ∙ ap₂ (λ (u v : ℕ). u * v) (k .same .scale-same) (sym (cost-is x q))
 
   -- the bound is at most every plan's cost
   pub bound-low : (x : ℕ → ℕ) → PlanOf g x → boundOf b ≤ costOf g x
   unfolding heldCosts
   bound-low x p =
       rounded-least (scale b) (scale-range (k .study) .0) (constant b) (costOf g x)
-      (rw (ap (λ (v : ℕ). v * costOf g x) (k .scale-same), ← total-is x p) (constant-at-most-total (shapeOf b) (heldCosts b) x))
+      (rw (ap (λ (v : ℕ). v * costOf g x) (k .same .scale-same), ← total-is x p) (constant-at-most-total (shapeOf b) (heldCosts b) x))
 
   pub after-list : AfterList g b
-  after-list = record {
-    trains-same = k .trains-same;
-    scale-same = k .scale-same;
-    sizes-same = k .sizes-same;
-    pairs-same = k .pairs-same;
-    firsts-same = k .firsts-same;
-    seconds-same = k .seconds-same;
-    totals = total-is;
-    bound = bound-low;
-  }
+  after-list = record { same = k .same; totals = total-is; bound = bound-low }
 
 -- where no cost is above 1,000,000 and there is no constant, no plan's total is above 72,000,000
 pub total-most : (s : Shape) (t : Costs) (x : ℕ → ℕ) → s .trains ≤ maxTrains → s .pairs ≤ maxPairs → t .constant ≡ 0

@@ -1,13 +1,11 @@
 -- Each operation keeps the block and the ledger together.
 use mathlib.Core.Path.{_≡_, refl, sym, ap, _∙_}
-use mathlib.Core.Bool.{cond, _&&_}
 use mathlib.Core.List.{List}
 use mathlib.Core.Logic.{inl, inr}
 use Prim.Native.Nat.{ℕ, _+_, _*_, _<_, _≤_}
 use native.Mathlib.Decide.{ℕ-discrete}
 use native.Mathlib.Nat.{mul-add}
 use native.Mathlib.Omega.{arith}
-use lib.Dec.{eqb}
 use lib.IntN.{ℤ}
 use lib.ListN.{length}
 use borrow.Author.Tests.{eq-eqb, ne-eqb}
@@ -33,15 +31,18 @@ pub load-keeps : (l : Numbers) → InRange l → Keeps (record { scale = l .scal
 load-keeps l r =
     record {
       study = load-study r;
-      trains-same = load-trains r;
-      scale-same = load-scale r;
-      sizes-same = λ i h. load-size r i (omega (arith, load-trains r));
-      pairs-same = load-pairs r;
-      firsts-same = λ k h. load-first r k (omega (arith, load-pairs r));
-      seconds-same = λ k h. load-second r k (omega (arith, load-pairs r));
+      same =
+          record {
+            trains-same = load-trains r;
+            scale-same = load-scale r;
+            sizes-same = λ i h. load-size r i (there i h);
+            pairs-same = load-pairs r;
+            firsts-same = λ k h. load-first r k (pair-there k h);
+            seconds-same = λ k h. load-second r k (pair-there k h);
+            choices-same = choice;
+            entries-same = entry;
+          };
       no-constant = refl;
-      choices-same = choice;
-      entries-same = entry;
       scaled = load-total r;
     }
   where
@@ -85,15 +86,19 @@ module _ {g : Ledger} {b c : List ℤ} (k : Keeps g b) (s : Study c) (e : SameSh
   keeps-from h shape scales zero choices entries totals =
       record {
         study = s;
-        trains-same = rw shape (same-trains e ∙ k .trains-same);
-        scale-same = same-scale e ∙ k .scale-same ∙ sym scales;
-        sizes-same = λ i q. rw shape (back-size i q ∙ k .sizes-same i (omega (arith, same-trains e)));
-        pairs-same = rw shape (same-pairs e ∙ k .pairs-same);
-        firsts-same = λ j q. rw shape (back-first j q ∙ k .firsts-same j (omega (arith, same-pairs e)));
-        seconds-same = λ j q. rw shape (back-second j q ∙ k .seconds-same j (omega (arith, same-pairs e)));
+        same =
+            record {
+              trains-same = rw shape (same-trains e ∙ k .same .trains-same);
+              scale-same = same-scale e ∙ k .same .scale-same ∙ sym scales;
+              sizes-same = λ i q. rw shape (back-size i q ∙ k .same .sizes-same i (omega (arith, same-trains e)));
+              pairs-same = rw shape (same-pairs e ∙ k .same .pairs-same);
+              firsts-same = λ j q. rw shape (back-first j q ∙ k .same .firsts-same j (omega (arith, same-pairs e)));
+              seconds-same = λ j q. rw shape (back-second j q ∙ k .same .seconds-same j (omega (arith, same-pairs e)));
+              choices-same = λ i a q r. choices i a (omega (arith, same-trains e)) (rw (back-size i q) at r);
+              entries-same = λ j a d q r t.
+                  entries j a d (omega (arith, same-pairs e)) (rw (back-first j q, back-size _ (first-there j q)) at r) (rw (back-second j q, back-size _ (second-there j q)) at t);
+            };
         no-constant = zero;
-        choices-same = λ i a q r. choices i a (omega (arith, same-trains e)) (rw (back-size i q) at r);
-        entries-same = λ j a d q r t. entries j a d (omega (arith, same-pairs e)) (rw (back-first j q, back-size _ (first-there j q)) at r) (rw (back-second j q, back-size _ (second-there j q)) at t);
         scaled = λ x p. rw (same-scale e) (totals x (back-plan x p));
       }
     where
@@ -116,7 +121,7 @@ pub rewritten-keeps : {g : Ledger} {b c : List ℤ} → Keeps g b → Study c �
     → ((x : ℕ → ℕ) → IsPlan (shapeOf b) x → heldTotal c x ≡ heldTotal b x) → Keeps g c
 unfolding IsPlan shapeOf loadedCosts
 rewritten-keeps {g} {b} {c} k s e loaded kept =
-    keeps-from k s e g refl refl (k .no-constant) (λ i a h q. choice i a h q ∙ k .choices-same i a h q) (λ j a d h p q. entry j a d h p q ∙ k .entries-same j a d h p q)
+    keeps-from k s e g refl refl (k .no-constant) (λ i a h q. choice i a h q ∙ k .same .choices-same i a h q) (λ j a d h p q. entry j a d h p q ∙ k .same .entries-same j a d h p q)
     (λ x p. kept x p ∙ k .scaled x p ∙ ap (λ (v : ℕ). scale b * v) (sym (same-total x p)))
   where
     choice : (i a : ℕ) → i < trains b → a < size b i → loadedChoice c i a ≡ loadedChoice b i a
@@ -164,20 +169,20 @@ add-keeps {g} {b} l k h q s =
     let a = addChoice l in
     let p = addPoints l in
     keeps-from k s (add-same-shape (k .study) i a p h q) (addedLedger l g) refl refl (k .no-constant) choice
-    (λ j c d m u v. add-entry-kept (k .study) i a p h q j c d ∙ k .entries-same j c d m u v) (add-scaled k i a p h q)
+    (λ j c d m u v. add-entry-kept (k .study) i a p h q j c d ∙ k .same .entries-same j c d m u v) (add-scaled k i a p h q)
   where
     choice : (j c : ℕ) → j < trains b → c < size b j
-        → loadedChoice (added (addTrain l) (addChoice l) (addPoints l) b) j c ≡ g .costs .choice j c + cond (eqb j (addTrain l) && eqb c (addChoice l)) (addPoints l) 0
+        → loadedChoice (added (addTrain l) (addChoice l) (addPoints l) b) j c ≡ addedLedger l g .costs .choice j c
     choice j c m n = go (ℕ-discrete j (addTrain l)) (ℕ-discrete c (addChoice l))
       where
         go : Dec (j ≡ addTrain l) → Dec (c ≡ addChoice l)
-            → loadedChoice (added (addTrain l) (addChoice l) (addPoints l) b) j c ≡ g .costs .choice j c + cond (eqb j (addTrain l) && eqb c (addChoice l)) (addPoints l) 0
+            → loadedChoice (added (addTrain l) (addChoice l) (addPoints l) b) j c ≡ addedLedger l g .costs .choice j c
         go (yes e) (yes f) =
             rw (eq-eqb j (addTrain l) e, eq-eqb c (addChoice l) f, e, f)
-            (add-choice (k .study) (addTrain l) (addChoice l) (addPoints l) h q ∙ ap (λ (v : ℕ). v + addPoints l) (k .choices-same (addTrain l) (addChoice l) h q))
+            (add-choice (k .study) (addTrain l) (addChoice l) (addPoints l) h q ∙ ap (λ (v : ℕ). v + addPoints l) (k .same .choices-same (addTrain l) (addChoice l) h q))
         go (yes e) (no f) =
             rw (eq-eqb j (addTrain l) e, ne-eqb c (addChoice l) f)
-            (add-choice-kept (k .study) (addTrain l) (addChoice l) (addPoints l) h q j c m n (λ _. f) ∙ k .choices-same j c m n ∙ omega arith)
+            (add-choice-kept (k .study) (addTrain l) (addChoice l) (addPoints l) h q j c m n (λ _. f) ∙ k .same .choices-same j c m n ∙ omega arith)
         go (no e) d =
             rw (ne-eqb j (addTrain l) e)
-            (add-choice-kept (k .study) (addTrain l) (addChoice l) (addPoints l) h q j c m n (λ w. absurd (e w)) ∙ k .choices-same j c m n ∙ omega arith)
+            (add-choice-kept (k .study) (addTrain l) (addChoice l) (addPoints l) h q j c m n (λ w. absurd (e w)) ∙ k .same .choices-same j c m n ∙ omega arith)

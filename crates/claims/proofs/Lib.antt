@@ -1,11 +1,12 @@
 -- The laws of the crate: one file for each idea.
-pub mod Cases
-pub mod Rewritten
 pub mod ReadBack
 pub mod Declined
+pub mod Shifts
 pub mod Lines
 pub mod Keeps
 pub mod Kept
 pub mod Found
 pub mod Steps
 pub mod Demand
+pub mod Seen
+pub mod Uses

@@ -1,81 +1,91 @@
--- What is claimed of one line, from what its reply shows.
+-- What is claimed of one call, from what its reply shows: the figures were read back (ReadBack), and each claim is about the kind that the reply shows.
 use mathlib.Core.Path.{_≡_, refl, sym, ap, ap₂, _∙_}
 use mathlib.Core.Bool.{Bool, true, false}
-use mathlib.Core.List.{List}
-use mathlib.Core.Logic.{_⊎_}
-use Prim.Native.Nat.{ℕ, _-_, _<_, _≤_, _^_}
+use mathlib.Core.List.{List, []}
+use Prim.Native.Nat.{ℕ, _*_, _-_, _<_, _≤_, _^_}
 use native.Mathlib.Omega.{arith}
+use lib.Dec.{eqb}
 use lib.IntN.{ℤ}
 use lib.ListN.{getD}
 use borrow.Author.Tests.{ne-eqb}
-use Rattle.tables.specs.Block.{trains}
+use Rattle.tables.specs.Block.{constant}
 use Rattle.tables.specs.Plans.{Shape, Costs, IsPlan, choiceTotal, pairTotal, total}
 use Rattle.tables.proofs.Sum.{sum-cong}
 use Rattle.tables.proofs.Range.{not-both}
 use Rattle.certificates.specs.declared.certify.Ceiling.{Ceiling}
 use Rattle.certificates.specs.Rival.{Rival, IsRival, ConstantAtMost}
+use Rattle.frames.specs.Digits.{digit, byteAt}
 use Rattle.frames.specs.Fields.{field}
 use Rattle.lines.specs.declared.refusal.Refusal.{Refusal}
-use Rattle.lines.specs.declared.refusal.Refusal.the-variants.{PartsOutside}
 use Rattle.lines.specs.Layout.{kindOf}
 use Rattle.lines.specs.Refusals.{refusalNumber}
 use Rattle.rows.specs.Added.{choicesOf}
 use Rattle.search.specs.declared.answer.Found.{Found}
-use Rattle.replies.specs.Replies.{refusalByte, refusalReply, figureWidth, boundOf, boundReply, certifyReply, shownCost, shownChoice, searchReply}
+use Rattle.replies.specs.Replies.{refusalByte, refusalReply, replyKind, figureWidth, flag, boundOf, boundReply, certifyReply, shownCost, shownChoice, searchReply}
 use Rattle.claims.specs.Ledger.{Entry, Ledger, accepted, costOf}
-use Rattle.claims.specs.Claims.{PlanOf, kindShown, costShown, planShown, showsPlan, scaledCost, AtLine}
-use Rattle.claims.proofs.ReadBack.{refusal-first, refusal-second, bound-kind, bound-shown, certify-kind, certify-weighted, certify-whole, search-kind, search-ended, search-cost, search-plan}
+use Rattle.claims.specs.Claims.{PlanOf, kindShown, DeclinedAs, outside, malformed, flagShown, reaches, costShown, planShown, showsPlan, scaledCost, AtLine, AddOrTighten, AtCall}
+use Rattle.claims.proofs.ReadBack.{refusal-number, bound-kind, bound-shown, certify-kind, certify-flag, certify-weighted, certify-whole, search-kind, search-ended, search-cost, search-plan}
 
 abbrev pub entry : List ℕ → List ℕ → Entry
 entry l reply = record { line = l; reply = reply }
 
--- a reply that shows a kind below FF is no refusal
-no-refusal : (reply : List ℕ) (r : Refusal) → kindShown reply < refusalByte → reply ≡ refusalReply r → ⊥
-no-refusal reply r h e = omega (arith, ap (λ (l : List ℕ). field l 0 1) e, refusal-first r)
+-- ---- a call, from its line
 
--- refusals with another number are other replies
-pub other-refusal : (r : Refusal) → (refusalNumber r ≡ 12 → ⊥) → refusalReply r ≡ refusalReply PartsOutside → ⊥
-other-refusal r n e = n (sym (refusal-second r) ∙ ap (λ (l : List ℕ). field l 1 1) e ∙ refusal-second PartsOutside)
+module _ (g : Ledger) (b : List ℤ) (l reply : List ℕ) where
+  -- a reply that is not accepted, which declines with another number
+  pub at-refused : accepted reply ≡ false → (AddOrTighten l → DeclinedAs outside reply → ⊥) → (DeclinedAs malformed reply → ⊥) → AtCall g b (entry l reply)
+  at-refused e n m = record { line = λ a. absurd (not-both a e); reached = λ a k. absurd (not-both a e); never-outside = n; never-malformed = m }
 
--- a line that is not accepted
-pub at-refused : (g : Ledger) (l reply : List ℕ) → accepted reply ≡ false → ((kindOf l ≡ 2) ⊎ (kindOf l ≡ 4) → reply ≡ refusalReply PartsOutside → ⊥) → AtLine g (entry l reply)
-at-refused g l reply e n =
-    record {
-      bound = λ a k x p. absurd (not-both a e);
-      ceiling = λ a k r is. absurd (not-both a e);
-      ended = λ a k s. absurd (not-both a e);
-      shown = λ a k s. absurd (not-both a e);
-      least = λ a k s x p. absurd (not-both a e);
-      never = n;
-    }
+  -- a reply that shows a kind below FF is no refusal
+  pub at-accepted : kindShown reply < refusalByte → AtLine g (entry l reply)
+      → (kindShown reply ≡ replyKind 5 → flagShown reply ≡ flag (reaches b reply)) → AtCall g b (entry l reply)
+  unfolding DeclinedAs
+  at-accepted h c f = record { line = λ _. c; reached = λ _. f; never-outside = λ _ d. omega (arith, d .0); never-malformed = λ d. omega (arith, d .0) }
+
+-- a refusal shows its own number
+pub other-refusal : (r : Refusal) (n : ℕ) → (refusalNumber r ≡ n → ⊥) → DeclinedAs n (refusalReply r) → ⊥
+unfolding DeclinedAs
+other-refusal r n m d = m (sym (refusal-number r) ∙ d .1)
+
+-- an empty reply shows none
+pub empty-shows : (n : ℕ) → DeclinedAs n [] → ⊥
+unfolding DeclinedAs field byteAt digit
+empty-shows n d = omega (arith, d .0)
+
+-- ---- the kinds
 
 -- 81 to 84
-pub at-bound : (g : Ledger) (l : List ℕ) (kind : ℕ) (b : List ℤ) → kind ≤ 4 → boundOf b < 256 ^ figureWidth
-    → ((x : ℕ → ℕ) → PlanOf g x → boundOf b ≤ costOf g x) → AtLine g (entry l (boundReply kind b))
-at-bound g l kind b h q low =
+pub at-bound : (g : Ledger) (old : List ℤ) (l : List ℕ) (kind : ℕ) (b : List ℤ) → kindOf l ≡ kind → kind ≤ 4 → boundOf b < 256 ^ figureWidth
+    → ((x : ℕ → ℕ) → PlanOf g x → boundOf b ≤ costOf g x) → AtCall g old (entry l (boundReply kind b))
+at-bound g old l kind b m h q low =
     let k = bound-kind kind b (omega arith) in
-    record {
-      bound = λ a _ x p. rw (bound-shown kind b (omega arith) q) (low x p);
-      ceiling = λ a e r is. absurd (omega (arith, k));
-      ended = λ a e s. absurd (omega (arith, k));
-      shown = λ a e s. absurd (omega (arith, k));
-      least = λ a e s x p. absurd (omega (arith, k));
-      never = λ _. no-refusal (boundReply kind b) PartsOutside (omega (arith, k));
-    }
+    let line : AtLine g (entry l (boundReply kind b)) = record {
+      kind = omega (arith, k, m);
+      bound = λ _ x p. rw (bound-shown kind b (omega arith) q) (low x p);
+      whole = λ e. absurd (omega (arith, k));
+      ceiling = λ e r is. absurd (omega (arith, k));
+      ended = λ e s. absurd (omega (arith, k));
+      shown = λ e s. absurd (omega (arith, k));
+      least = λ e s x p. absurd (omega (arith, k));
+    } in
+    at-accepted g old l (boundReply kind b) (omega (arith, k)) line (λ e. absurd (omega (arith, k)))
 
 -- 85
-pub at-ceiling : (g : Ledger) (l : List ℕ) (whole : ℕ) (c : Ceiling) → whole < 256 ^ 3 → c .weighted < 256 ^ 8
-    → ((r : Rival) → IsRival (g .shape) (scaledCost g) r → ConstantAtMost whole (c .weighted) r) → AtLine g (entry l (certifyReply whole c))
-at-ceiling g l whole c h q holds =
+pub at-ceiling : (g : Ledger) (b : List ℤ) (l : List ℕ) (whole : ℕ) (c : Ceiling) → kindOf l ≡ 5 → 0 < whole → whole < 256 ^ 3 → c .weighted < 256 ^ 8
+    → c .reached ≡ eqb (c .weighted) (whole * constant b)
+    → ((r : Rival) → IsRival (g .shape) (scaledCost g) r → ConstantAtMost whole (c .weighted) r) → AtCall g b (entry l (certifyReply whole c))
+at-ceiling g b l whole c m z h q e holds =
     let k = certify-kind whole c in
-    record {
-      bound = λ a e x p. absurd (omega (arith, k));
-      ceiling = λ a _ r is. rw (certify-whole whole c h, certify-weighted whole c q) (holds r is);
-      ended = λ a e s. absurd (omega (arith, k));
-      shown = λ a e s. absurd (omega (arith, k));
-      least = λ a e s x p. absurd (omega (arith, k));
-      never = λ _. no-refusal (certifyReply whole c) PartsOutside (omega (arith, k));
-    }
+    let line : AtLine g (entry l (certifyReply whole c)) = record {
+      kind = omega (arith, k, m);
+      bound = λ e x p. absurd (omega (arith, k));
+      whole = λ _. omega (arith, certify-whole whole c h, z);
+      ceiling = λ _ r is. rw (certify-whole whole c h, certify-weighted whole c q) (holds r is);
+      ended = λ e s. absurd (omega (arith, k));
+      shown = λ e s. absurd (omega (arith, k));
+      least = λ e s x p. absurd (omega (arith, k));
+    } in
+    at-accepted g b l (certifyReply whole c) (omega (arith, k)) line (λ _. rw (certify-whole whole c h, certify-weighted whole c q) (certify-flag whole c ∙ ap flag e))
 
 -- plans that agree on every train cost the same
 plan-cong : (s : Shape) (t : Costs) (x y : ℕ → ℕ) → ((i : ℕ) → i < s .trains → x i ≡ y i)
@@ -139,14 +149,16 @@ module _ (g : Ledger) (l : List ℕ) (n : ℕ) (f : Found) (r : Right g n f) whe
       go true e = e
       go false e = absurd (not-both s (unknown-hides e))
 
-  pub at-search : AtLine g (entry l (searchReply n f))
-  at-search =
+  pub at-search : (b : List ℤ) → kindOf l ≡ 6 → AtCall g b (entry l (searchReply n f))
+  at-search b m =
       let k = search-kind n f in
-      record {
-        bound = λ a e x p. absurd (omega (arith, k));
-        ceiling = λ a e d is. absurd (omega (arith, k));
-        ended = λ a e s. known-shows (r .ended (sym (search-ended n f) ∙ s) .0);
-        shown = λ a e s. (known-plan (shows-known s), known-cost (shows-known s));
-        least = λ a e s x p. let w = r .ended (sym (search-ended n f) ∙ s) in rw (cost-known (w .0)) (w .1 x p);
-        never = λ _. no-refusal (searchReply n f) PartsOutside (omega (arith, k));
-      }
+      let line : AtLine g (entry l (searchReply n f)) = record {
+        kind = omega (arith, k, m);
+        bound = λ e x p. absurd (omega (arith, k));
+        whole = λ e. absurd (omega (arith, k));
+        ceiling = λ e d is. absurd (omega (arith, k));
+        ended = λ e s. known-shows (r .ended (sym (search-ended n f) ∙ s) .0);
+        shown = λ e s. (known-plan (shows-known s), known-cost (shows-known s));
+        least = λ e s x p. let w = r .ended (sym (search-ended n f) ∙ s) in rw (cost-known (w .0)) (w .1 x p);
+      } in
+      at-accepted g b l (searchReply n f) (omega (arith, k)) line (λ e. absurd (omega (arith, k)))

@@ -19,7 +19,7 @@ use Rattle.lines.specs.Refusals.{refusalNumber}
 use Rattle.search.specs.declared.answer.Found.{Found}
 use Rattle.replies.specs.Replies.{refusalByte, refusalReply, replyKind, figureWidth, boundOf, boundReply, flag, certifyReply, planDigits, shownCost, shownChoice, searchReply}
 use Rattle.claims.specs.Ledger.{accepted}
-use Rattle.claims.specs.Claims.{kindShown, boundShown, weightedShown, wholeShown, saysEnded, costShown, planShown}
+use Rattle.claims.specs.Claims.{kindShown, numberShown, boundShown, flagShown, weightedShown, wholeShown, saysEnded, costShown, planShown}
 
 -- ---- one field after others
 
@@ -27,6 +27,10 @@ use Rattle.claims.specs.Claims.{kindShown, boundShown, weightedShown, wh
 pub skip : (a u : ℕ) (l : List ℕ) (at w : ℕ) → field (fieldDigits a u l) (a + at) w ≡ field l at w
 skip a u l at w =
     rw (digits-append a u [] l) (field-after (fieldDigits a u []) l a (digits-length a u [] ∙ add-zero (2 * a)) at w)
+
+-- the second byte, behind any first
+pub second-byte : (u v : ℕ) (rest : List ℕ) → v < 256 → field (fieldDigits 1 u (fieldDigits 1 v rest)) 1 1 ≡ v
+second-byte u v rest h = skip 1 u (fieldDigits 1 v rest) 0 1 ∙ field-here 1 v rest h
 
 -- ---- whether a reply is accepted
 
@@ -75,14 +79,9 @@ pub refusal-refused : (r : Refusal) → accepted (refusalReply r) ≡ false
 unfolding refusalReply
 refusal-refused r = refused-as (fieldDigits 1 (refusalNumber r) [])
 
--- the first byte of a refusal, and the second
-pub refusal-first : (r : Refusal) → field (refusalReply r) 0 1 ≡ refusalByte
+pub refusal-number : (r : Refusal) → numberShown (refusalReply r) ≡ refusalNumber r
 unfolding refusalReply
-refusal-first r = field-here 1 refusalByte (fieldDigits 1 (refusalNumber r) []) (omega arith)
-
-pub refusal-second : (r : Refusal) → field (refusalReply r) 1 1 ≡ refusalNumber r
-unfolding refusalReply
-refusal-second r = skip 1 refusalByte (fieldDigits 1 (refusalNumber r) []) 0 1 ∙ field-here 1 (refusalNumber r) [] (omega (arith, number-low r))
+refusal-number r = second-byte refusalByte (refusalNumber r) [] (omega (arith, number-low r))
 
 -- ---- 81 to 84
 
@@ -120,17 +119,21 @@ module _ (whole : ℕ) (c : Ceiling) where
   unfolding certifyReply
   certify-accepted = accepted-as (replyKind 5) certifyTail (omega arith)
 
+  pub certify-flag : flagShown (certifyReply whole c) ≡ flag (c .reached)
+  unfolding certifyReply
+  certify-flag = second-byte (replyKind 5) (flag (c .reached)) (fieldDigits 8 (c .weighted) (fieldDigits 3 whole [])) (flag-low (c .reached))
+
   pub certify-weighted : c .weighted < 256 ^ 8 → weightedShown (certifyReply whole c) ≡ c .weighted
   unfolding certifyReply
   certify-weighted h =
-      skip 1 (replyKind 5) (fieldDigits 1 (flag (c .reached)) (fieldDigits 8 (c .weighted) (fieldDigits 3 whole []))) 1 8
+      skip 1 (replyKind 5) certifyTail 1 8
       ∙ skip 1 (flag (c .reached)) (fieldDigits 8 (c .weighted) (fieldDigits 3 whole [])) 0 8
       ∙ field-here 8 (c .weighted) (fieldDigits 3 whole []) h
 
   pub certify-whole : whole < 256 ^ 3 → wholeShown (certifyReply whole c) ≡ whole
   unfolding certifyReply
   certify-whole h =
-      skip 1 (replyKind 5) (fieldDigits 1 (flag (c .reached)) (fieldDigits 8 (c .weighted) (fieldDigits 3 whole []))) 9 3
+      skip 1 (replyKind 5) certifyTail 9 3
       ∙ skip 1 (flag (c .reached)) (fieldDigits 8 (c .weighted) (fieldDigits 3 whole [])) 8 3
       ∙ skip 8 (c .weighted) (fieldDigits 3 whole []) 0 3
       ∙ field-here 3 whole [] h
@@ -165,9 +168,7 @@ module _ (n : ℕ) (f : Found) where
   pub search-ended : saysEnded (searchReply n f) ≡ f .ended
   unfolding searchReply
   search-ended =
-      ap (λ (v : ℕ). eqb v 1)
-      (skip 1 (replyKind 6) (fieldDigits 1 (flag (f .ended)) (fieldDigits 4 (f .count) (fieldDigits figureWidth (shownCost f) (planDigits 0 n (shownChoice f))))) 0 1
-      ∙ field-here 1 (flag (f .ended)) (fieldDigits 4 (f .count) (fieldDigits figureWidth (shownCost f) (planDigits 0 n (shownChoice f)))) (flag-low (f .ended)))
+      ap (λ (v : ℕ). eqb v 1) (second-byte (replyKind 6) (flag (f .ended)) (fieldDigits 4 (f .count) (fieldDigits figureWidth (shownCost f) (planDigits 0 n (shownChoice f)))) (flag-low (f .ended)))
       ∙ flag-back (f .ended)
 
   behind : (at w : ℕ) → field (searchReply n f) (1 + (1 + (4 + at))) w ≡ field (fieldDigits figureWidth (shownCost f) (planDigits 0 n (shownChoice f))) at w

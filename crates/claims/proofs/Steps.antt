@@ -1,8 +1,8 @@
--- One call: it keeps block and ledger together, and what is claimed of its line holds.
+-- One call: it keeps block and ledger together, and what is claimed of it holds.
 use mathlib.Core.Path.{_≡_, refl, sym, ap, subst, _∙_}
 use mathlib.Core.Bool.{Bool, true, false, cond}
 use mathlib.Core.List.{List, []}
-use mathlib.Core.Logic.{_⊎_, inl, inr, dite}
+use mathlib.Core.Logic.{inl, inr, dite}
 use Prim.Native.Nat.{ℕ, _+_, _*_, _<_, _≤_, _^_}
 use native.Mathlib.Decide.{ℕ-discrete, decLt}
 use native.Mathlib.Omega.{arith}
@@ -12,10 +12,11 @@ use lib.ListN.{length}
 use borrow.Author.Tests.{eq-eqb, ne-eqb}
 use Rattle.tables.specs.Block.{maxTrains, maxPairs, maxCost, trains, pairs, size, first, second, loadedChoice}
 use Rattle.tables.specs.Ranges.{maxWhole}
-use Rattle.tables.specs.WellFormed.{holdsStudy, wellFormed, Study}
+use Rattle.tables.specs.WellFormed.{holdsStudy, Study}
 use Rattle.tables.specs.Plans.{IsPlan, shapeOf, loadedCosts, loadedTotal}
 use Rattle.tables.proofs.Plans.{same-shape-total}
-use Rattle.tables.proofs.Study.{holds-study, trains-range, pairs-range, size-range, first-below-trains, second-below-trains, loaded-choice-range}
+use Rattle.tables.proofs.Range.{not-both}
+use Rattle.tables.proofs.Study.{holds-study, study-well-formed, trains-range, pairs-range, size-range, first-below-trains, second-below-trains, loaded-choice-range}
 use Rattle.operations.specs.declared.outcome.Outcome.{Outcome}
 use Rattle.operations.specs.declared.outcome.Outcome.the-variants.{Done, CostAbove as cost-above, PartsOutside as parts-outside}
 use Rattle.operations.specs.Add.{added, addOutcome, addBlock}
@@ -28,12 +29,10 @@ use Rattle.tighten.proofs.Ends.{tighten-same-shape, tighten-loaded, tighten-kee
 use Rattle.certificates.specs.declared.certify.Certificate.{Certificate}
 use Rattle.certificates.specs.declared.certify.Certificate.the-variants.{Unbalanced, Balanced}
 use Rattle.certificates.specs.Certify.{weightsOf, certificate}
-use Rattle.certificates.proofs.Ceilings.{certify-fits}
-use Rattle.frames.specs.Fields.{fieldDigits}
+use Rattle.certificates.proofs.Ceilings.{certify-ceiling, certify-fits}
 use Rattle.frames.specs.Runs.{runOf, signedRunOf}
-use Rattle.frames.proofs.RoundTrip.{digits-length}
 use Rattle.lines.specs.declared.refusal.Refusal.{Refusal}
-use Rattle.lines.specs.declared.refusal.Refusal.the-variants.{CostAbove, PartsOutside, Sums, Malformed}
+use Rattle.lines.specs.declared.refusal.Refusal.the-variants.{CostAbove, PartsOutside, Sums}
 use Rattle.lines.specs.declared.request.Request.{Request}
 use Rattle.lines.specs.declared.request.Request.the-variants.{Load, Add, Shift, Tighten, Certify, Search}
 use Rattle.lines.specs.declared.request.Line.{Line}
@@ -47,18 +46,19 @@ use Rattle.lines.proofs.LoadRange.{load-in-range}
 use Rattle.reader.specs.Reading.{addRequest, moveCount, weightCount, shiftRequest, certifyRequest, searchRequest, lineOf}
 use Rattle.reader.proofs.Accepted.{add-fine, certify-fine}
 use Rattle.reader.proofs.LineAccepted.{Makes, line-makes, add-there}
-use Rattle.reader.proofs.LineKind.{requestKind, line-kind, line-refused}
+use Rattle.reader.proofs.LineKind.{requestKind, line-kind}
+use Rattle.reader.proofs.LineRefused.{ofReading, line-refused}
 use Rattle.search.specs.Answer.{searchAnswer}
 use Rattle.search.proofs.Theorems.{search-entries}
-use Rattle.replies.specs.Replies.{refusalByte, refusalReply, figureWidth, boundOf, boundReply, certifyReply, searchReply}
+use Rattle.replies.specs.Replies.{refusalReply, figureWidth, boundOf, boundReply, certifyReply, searchReply}
 use Rattle.replies.specs.Wrote.{minBuffer}
 use Rattle.service.specs.Answer.{Answer, answered, declined, operated, certified, requested, lineAnswer, answer}
 use Rattle.claims.specs.Ledger.{Ledger, accepted, loadedLedger, addedLedger, fed}
-use Rattle.claims.specs.Claims.{AtLine}
+use Rattle.claims.specs.Claims.{outside, malformed, AddOrTighten, AtCall}
 use Rattle.claims.proofs.Found.{ceiling-holds, known-plan, known-low, ended-least}
 use Rattle.claims.proofs.Keeps.{Keeps, plan-out, cost-is, bound-low, total-most, entry-most, loaded-total-most, scaled-most, held-total-most}
 use Rattle.claims.proofs.Kept.{load-keeps, rewritten-keeps, add-scaled, add-keeps}
-use Rattle.claims.proofs.Lines.{entry, other-refusal, at-refused, at-bound, at-ceiling, Right, at-search}
+use Rattle.claims.proofs.Lines.{entry, at-refused, other-refusal, empty-shows, at-bound, at-ceiling, Right, at-search}
 use Rattle.claims.proofs.ReadBack.{empty-refused, refusal-refused, bound-accepted, certify-accepted, search-accepted}
 
 -- ---- what the ledger makes of a line
@@ -80,28 +80,44 @@ module _ (g : Ledger) (l reply : List ℕ) where
   unfolding fed
   fed-other e k = rw (e, ne-eqb (kindOf l) 1 (λ q. omega arith), ne-eqb (kindOf l) 2 (λ q. omega arith))
 
--- an empty reply is no refusal with a number
-pub no-empty : [] ≡ refusalReply PartsOutside → ⊥
-unfolding refusalReply
-no-empty e = omega (arith, ap length e, digits-length 1 refusalByte (fieldDigits 1 12 []), digits-length 1 12 [])
-
 -- ---- a good call
 
-pub record Good (g : Ledger) (l : List ℕ) (a : Answer) : Type 0 where
+-- of a call that had the block b
+pub record Good (g : Ledger) (b : List ℤ) (l : List ℕ) (a : Answer) : Type 0 where
   pub keeps : Keeps (fed (entry l (a .reply)) g) (a .block)
-  pub line : AtLine (fed (entry l (a .reply)) g) (entry l (a .reply))
+  pub call : AtCall (fed (entry l (a .reply)) g) b (entry l (a .reply))
 
 -- by the ledger h that the line leaves
-good-by : (g h : Ledger) (l : List ℕ) (a : Answer) → fed (entry l (a .reply)) g ≡ h → Keeps h (a .block) → AtLine h (entry l (a .reply)) → Good g l a
-good-by g h l a e k c = record { keeps = rw e k; line = rw e c }
+good-by : (g h : Ledger) (b : List ℤ) (l : List ℕ) (a : Answer) → fed (entry l (a .reply)) g ≡ h → Keeps h (a .block) → AtCall h b (entry l (a .reply)) → Good g b l a
+good-by g h b l a e k c = record { keeps = rw e k; call = rw e c }
 
--- a reply that is not accepted leaves both
-good-refused : {g : Ledger} {b : List ℤ} → Keeps g b → (l reply : List ℕ) → accepted reply ≡ false
-    → ((kindOf l ≡ 2) ⊎ (kindOf l ≡ 4) → reply ≡ refusalReply PartsOutside → ⊥) → Good g l (answered b reply)
-good-refused {g} {b} k l reply e n = good-by g g l (answered b reply) (fed-refused g l reply e) k (at-refused g l reply e n)
+-- ---- declined calls
 
-good-declined : {g : Ledger} {b : List ℤ} → Keeps g b → (l : List ℕ) (r : Refusal) → ((kindOf l ≡ 2) ⊎ (kindOf l ≡ 4) → refusalNumber r ≡ 12 → ⊥) → Good g l (declined b r)
-good-declined k l r n = good-refused k l (refusalReply r) (refusal-refused r) (λ w. other-refusal r (n w))
+-- a refusal that no claim excludes: not 16, and to an addition or a tightening not 12
+pub record Allowed (l : List ℕ) (r : Refusal) : Type 0 where
+  pub not-outside : AddOrTighten l → refusalNumber r ≡ outside → ⊥
+  pub not-malformed : refusalNumber r ≡ malformed → ⊥
+
+-- what the reader declines
+pub line-allowed : (l : List ℕ) (b : List ℤ) (r : Refusal) → lineOf l b ≡ Refused r → Allowed l r
+line-allowed l b r e = record { not-outside = λ w. apart outside refl; not-malformed = apart malformed refl }
+  where
+    apart : (n : ℕ) → ofReading n ≡ false → refusalNumber r ≡ n → ⊥
+    apart n h q = not-both (line-refused l b r e) (ap ofReading q ∙ h)
+
+module _ (g : Ledger) (b : List ℤ) (l : List ℕ) where
+  pub declined-call : (r : Refusal) → Allowed l r → AtCall g b (entry l (refusalReply r))
+  declined-call r w =
+      at-refused g b l (refusalReply r) (refusal-refused r) (λ u. other-refusal r outside (w .not-outside u)) (other-refusal r malformed (w .not-malformed))
+
+  pub empty-call : AtCall g b (entry l [])
+  empty-call = at-refused g b l [] empty-refused (λ u. empty-shows outside) (empty-shows malformed)
+
+-- they leave both block and ledger
+good-declined : {g : Ledger} {b : List ℤ} → Keeps g b → (l : List ℕ) (r : Refusal) → Allowed l r → Good g b l (declined b r)
+good-declined {g} {b} k l r w = good-by g g b l (declined b r) (fed-refused g l (refusalReply r) (refusal-refused r)) k (declined-call g b l r w)
+
+-- ---- replies that show a bound
 
 -- the plan that takes choice 0 everywhere
 zero-plan : {b : List ℤ} → Study b → IsPlan (shapeOf b) (λ i. 0)
@@ -114,22 +130,23 @@ bound-fits {g} {b} k =
     let p = zero-plan (k .study) in
     omega (arith, bound-low k (λ i. 0) (plan-out k (λ i. 0) p), cost-is k (λ i. 0) p, loaded-total-most (k .study) (λ i. 0) p)
 
-good-bound : (g h : Ledger) (l : List ℕ) (kind : ℕ) (b : List ℤ) → kind ≤ 4 → fed (entry l (boundReply kind b)) g ≡ h → Keeps h b → Good g l (answered b (boundReply kind b))
-good-bound g h l kind b q e k = good-by g h l (answered b (boundReply kind b)) e k (at-bound h l kind b q (bound-fits k) (bound-low k))
+good-bound : (g h : Ledger) (old : List ℤ) (l : List ℕ) (kind : ℕ) (b : List ℤ) → kindOf l ≡ kind → kind ≤ 4 → fed (entry l (boundReply kind b)) g ≡ h → Keeps h b
+    → Good g old l (answered b (boundReply kind b))
+good-bound g h old l kind b m q e k = good-by g h old l (answered b (boundReply kind b)) e k (at-bound h old l kind b m q (bound-fits k) (bound-low k))
 
 -- ---- load, on any block
 
-pub good-load : (g : Ledger) (l : List ℕ) (b : List ℤ) → kindOf l ≡ 1 → loadVerdict l ≡ Fine → Good g l (requested (loadRequest l) l b)
+pub good-load : (g : Ledger) (l : List ℕ) (b : List ℤ) → kindOf l ≡ 1 → loadVerdict l ≡ Fine → Good g b l (requested (loadRequest l) l b)
 unfolding requested
 good-load g l b k v =
     let n = loadedBlock (numbersOf l) in
-    good-bound g (loadedLedger l) l 1 n (omega arith) (fed-load g l (boundReply 1 n) (bound-accepted 1 n (omega arith)) k) (load-keeps (numbersOf l) (load-in-range l v))
+    good-bound g (loadedLedger l) b l 1 n k (omega arith) (fed-load g l (boundReply 1 n) (bound-accepted 1 n (omega arith)) k) (load-keeps (numbersOf l) (load-in-range l v))
 
 -- ---- the other kinds
 
 module _ {g : Ledger} {b : List ℤ} (k : Keeps g b) (l : List ℕ) where
   -- a shift
-  good-shift : kindOf l ≡ 3 → Good g l (requested (shiftRequest (trains b) (moveCount b)) l b)
+  good-shift : kindOf l ≡ 3 → Good g b l (requested (shiftRequest (trains b) (moveCount b)) l b)
   unfolding requested
   good-shift e = go (holdsStudy (shifted lifts moves b)) refl
     where
@@ -139,27 +156,27 @@ module _ {g : Ledger} {b : List ℤ} (k : Keeps g b) (l : List ℕ) where
       moves : List ℤ
       moves = signedRunOf l (movesAt (trains b)) moveWidth (moveCount b)
 
-      go : (t : Bool) → holdsStudy (shifted lifts moves b) ≡ t → Good g l (operated 3 (cond t Done parts-outside) b (cond t (shifted lifts moves b) b))
+      go : (t : Bool) → holdsStudy (shifted lifts moves b) ≡ t → Good g b l (operated 3 (cond t Done parts-outside) b (cond t (shifted lifts moves b) b))
       go true h =
           let c = shifted lifts moves b in
           let s = holds-study c (shift-same-shape (k .study) lifts moves .whole ∙ k .study .whole) h in
-          good-bound g g l 3 c (omega arith) (fed-other g l (boundReply 3 c) (bound-accepted 3 c (omega arith)) (omega arith))
+          good-bound g g b l 3 c e (omega arith) (fed-other g l (boundReply 3 c) (bound-accepted 3 c (omega arith)) (omega arith))
           (rewritten-keeps k s (shift-same-shape (k .study) lifts moves) (shift-loaded (k .study) lifts moves) (shift-keeps-total (k .study) lifts moves s))
-      go false h = good-declined k l PartsOutside (λ w. ⊎-no w)
+      go false h = good-declined k l PartsOutside (record { not-outside = λ w _. other w; not-malformed = λ q. omega arith })
         where
-          ⊎-no : (kindOf l ≡ 2) ⊎ (kindOf l ≡ 4) → refusalNumber PartsOutside ≡ 12 → ⊥
-          ⊎-no (inl z) _ = omega arith
-          ⊎-no (inr z) _ = omega arith
+          other : AddOrTighten l → ⊥
+          other (inl z) = omega arith
+          other (inr z) = omega arith
 
   -- a tightening is always done
-  good-tighten : kindOf l ≡ 4 → Good g l (requested Tighten l b)
+  good-tighten : kindOf l ≡ 4 → Good g b l (requested Tighten l b)
   unfolding requested
   good-tighten e =
       let c = tightened b in
       let h = tighten-within (k .study) (held-total-most k) in
       let s = holds-study c (tighten-same-shape (k .study) .whole ∙ k .study .whole) h in
       rw h
-      (good-bound g g l 4 c (omega arith) (fed-other g l (boundReply 4 c) (bound-accepted 4 c (omega arith)) (omega arith))
+      (good-bound g g b l 4 c e (omega arith) (fed-other g l (boundReply 4 c) (bound-accepted 4 c (omega arith)) (omega arith))
       (rewritten-keeps k s (tighten-same-shape (k .study)) (tighten-loaded (k .study)) (tighten-keeps-total (k .study))))
 
   -- ---- an addition
@@ -197,80 +214,80 @@ module _ {g : Ledger} {b : List ℤ} (k : Keeps g b) (l : List ℕ) where
         (λ x p. rw (add-scaled k (addTrain l) (addChoice l) (addPoints l) there in-size x p) (scaled-most (k .study) (loadedTotal sum-block x) (sum-loaded low x p))) in
         let z : _≡_ {A = ℕ} 0 1 = cc in omega arith)
 
-    good-added : kindOf l ≡ 2 → Good g l (requested (addRequest l) l b)
+    good-added : kindOf l ≡ 2 → Good g b l (requested (addRequest l) l b)
     unfolding requested
     good-added e = go (addOutcome (addTrain l) (addChoice l) (addPoints l) b) refl
       where
-        go : (o : Outcome) → addOutcome (addTrain l) (addChoice l) (addPoints l) b ≡ o → Good g l (operated 2 o b (addBlock (addTrain l) (addChoice l) (addPoints l) b))
+        go : (o : Outcome) → addOutcome (addTrain l) (addChoice l) (addPoints l) b ≡ o → Good g b l (operated 2 o b (addBlock (addTrain l) (addChoice l) (addPoints l) b))
         go Done h =
             let f = add-done (addTrain l) (addChoice l) (addPoints l) b h in
             rw f
-            (good-bound g (addedLedger l g) l 2 sum-block (omega arith) (fed-add g l (boundReply 2 sum-block) (bound-accepted 2 sum-block (omega arith)) e)
+            (good-bound g (addedLedger l g) b l 2 sum-block e (omega arith) (fed-add g l (boundReply 2 sum-block) (bound-accepted 2 sum-block (omega arith)) e)
             (add-keeps l k there in-size (rw f at (add-study (k .study) (addTrain l) (addChoice l) (addPoints l) there in-size))))
-        go cost-above h = good-declined k l CostAbove (λ w q. omega arith)
+        go cost-above h = good-declined k l CostAbove (record { not-outside = λ w q. omega arith; not-malformed = λ q. omega arith })
         go parts-outside h = absurd (never-outside h)
 
   -- ---- certificates and searches change nothing
 
-  good-certify : kindOf l ≡ 5 → certifyWhole l ≤ maxWhole → Good g l (requested (certifyRequest l (weightCount b)) l b)
+  good-certify : kindOf l ≡ 5 → (1 ≤ certifyWhole l) × (certifyWhole l ≤ maxWhole) → Good g b l (requested (certifyRequest l (weightCount b)) l b)
   unfolding requested
   good-certify e low = go (certificate b (weightsOf b (certifyWhole l) weights)) refl
     where
       weights : List ℕ
       weights = runOf l weightsAt weightWidth (weightCount b)
 
-      go : (c : Certificate) → certificate b (weightsOf b (certifyWhole l) weights) ≡ c → Good g l (certified (certifyWhole l) c b)
-      go Unbalanced h = good-declined k l Sums (λ w q. omega arith)
+      go : (c : Certificate) → certificate b (weightsOf b (certifyWhole l) weights) ≡ c → Good g b l (certified (certifyWhole l) c b)
+      go Unbalanced h = good-declined k l Sums (record { not-outside = λ w q. omega arith; not-malformed = λ q. omega arith })
       go (Balanced c) h =
-          good-by g g l (answered b (certifyReply (certifyWhole l) c)) (fed-other g l (certifyReply (certifyWhole l) c) (certify-accepted (certifyWhole l) c) (omega arith)) k
-          (at-ceiling g l (certifyWhole l) c (omega arith) (omega (arith, certify-fits (certifyWhole l) weights (k .study) low h)) (ceiling-holds k (weightsOf b (certifyWhole l) weights) h))
+          let w = certify-ceiling b (weightsOf b (certifyWhole l) weights) h in
+          good-by g g b l (answered b (certifyReply (certifyWhole l) c)) (fed-other g l (certifyReply (certifyWhole l) c) (certify-accepted (certifyWhole l) c) (omega arith)) k
+          (at-ceiling g b l (certifyWhole l) c e (low .0) (omega (arith, low .1)) (omega (arith, certify-fits (certifyWhole l) weights (k .study) (low .1) h)) (rw (w .shown) (w .reached)) (ceiling-holds k (weightsOf b (certifyWhole l) weights) h))
 
   found-right : (budget : ℕ) → Right g (trains b) (searchAnswer b budget)
   unfolding searchAnswer
   found-right budget =
       record {
-        trains = k .trains-same;
+        trains = k .same .trains-same;
         inside = λ j h.
-            let q : j < pairs b = omega (arith, k .pairs-same) in
-            (omega (arith, k .firsts-same j q, first-below-trains (k .study) j q), omega (arith, k .seconds-same j q, second-below-trains (k .study) j q));
+            let q : j < pairs b = omega (arith, k .same .pairs-same) in
+            (omega (arith, k .same .firsts-same j q, first-below-trains (k .study) j q), omega (arith, k .same .seconds-same j q, second-below-trains (k .study) j q));
         low = λ e. omega (arith, known-low k budget e);
         small = λ i h. omega (arith, search-entries (k .study) budget .1 i h, size-range (k .study) i h);
         plan = known-plan k budget;
         ended = ended-least k budget;
       }
 
-  good-search : kindOf l ≡ 6 → Good g l (requested (searchRequest l) l b)
+  good-search : kindOf l ≡ 6 → Good g b l (requested (searchRequest l) l b)
   unfolding requested
   good-search e =
       let f = searchAnswer b (searchBudget l) in
-      good-by g g l (answered b (searchReply (trains b) f)) (fed-other g l (searchReply (trains b) f) (search-accepted (trains b) f) (omega arith)) k
-      (at-search g l (trains b) f (found-right (searchBudget l)))
+      good-by g g b l (answered b (searchReply (trains b) f)) (fed-other g l (searchReply (trains b) f) (search-accepted (trains b) f) (omega arith)) k
+      (at-search g l (trains b) f (found-right (searchBudget l)) b e)
 
   -- ---- every request
 
-  as-asked : (q r : Request) → q ≡ r → Good g l (requested r l b) → Good g l (requested q l b)
-  as-asked q r e x = subst (λ (s : Request). Good g l (requested s l b)) (sym e) x
+  as-asked : (q r : Request) → q ≡ r → Good g b l (requested r l b) → Good g b l (requested q l b)
+  as-asked q r e x = subst (λ (s : Request). Good g b l (requested s l b)) (sym e) x
 
-  good-request : (q : Request) → Makes l b q → kindOf l ≡ requestKind q → Good g l (requested q l b)
+  good-request : (q : Request) → Makes l b q → kindOf l ≡ requestKind q → Good g b l (requested q l b)
   good-request (Load q) m e = as-asked (Load q) (loadRequest l) (m .0) (good-load g l b e (m .1))
   good-request (Add q) m e =
       let w = add-there (k .study) (add-fine l b (m .1)) in
       as-asked (Add q) (addRequest l) (m .0) (good-added (w .0) (w .1) e)
   good-request (Shift q) m e = as-asked (Shift q) (shiftRequest (trains b) (moveCount b)) (m .0) (good-shift e)
   good-request Tighten m e = good-tighten e
-  good-request (Certify q) m e = as-asked (Certify q) (certifyRequest l (weightCount b)) (m .0) (good-certify e (certify-fine l (weightCount b) (m .1) .whole .1))
+  good-request (Certify q) m e = as-asked (Certify q) (certifyRequest l (weightCount b)) (m .0) (good-certify e (certify-fine l (weightCount b) (m .1) .whole))
   good-request (Search q) m e = as-asked (Search q) (searchRequest l) (m .0) (good-search e)
 
-  good-line : (x : Line) → lineOf l b ≡ x → Good g l (lineAnswer x l b)
+  good-line : (x : Line) → lineOf l b ≡ x → Good g b l (lineAnswer x l b)
   good-line (Asked q) e = good-request q (line-makes l b q e .1) (line-kind l b q e)
-  good-line (Refused r) e = good-declined k l r (λ w. line-refused l b r w e)
+  good-line (Refused r) e = good-declined k l r (line-allowed l b r e)
 
   -- a call on a block that the ledger keeps
-  pub good-call : (buffer : List ℕ) → Good g l (answer l b buffer)
+  pub good-call : (buffer : List ℕ) → Good g b l (answer l b buffer)
   unfolding answer
-  good-call buffer = go (ltb (length buffer) minBuffer) (wellFormed b)
+  good-call buffer = rw (study-well-formed (k .study)) (go (ltb (length buffer) minBuffer))
     where
-      go : (t u : Bool) → Good g l (cond t (answered b []) (cond u (lineAnswer (lineOf l b) l b) (declined b Malformed)))
-      go true u = good-refused k l [] empty-refused (λ w. no-empty)
-      go false true = good-line (lineOf l b) refl
-      go false false = good-declined k l Malformed (λ w q. omega arith)
+      go : (t : Bool) → Good g b l (cond t (answered b []) (lineAnswer (lineOf l b) l b))
+      go true = good-by g g b l (answered b []) (fed-refused g l [] empty-refused) k (empty-call g b l)
+      go false = good-line (lineOf l b) refl

@@ -1,4 +1,5 @@
--- Demand 3 of document 01, as one claim about a whole list of calls from a fresh block. Nothing else stands in this file; `demand` in proofs/Demand.antt proves it.
+-- Demand 3 of document 01, as one claim about a whole list of calls from a fresh block. Nothing else stands in this file; `demand` in proofs/Demand.antt proves it. What follows from each
+-- part of it, so that it cannot be said more weakly unseen, stands in proofs/Uses.antt; the name of the law there is in brackets.
 use mathlib.Core.Path.{_≡_}
 use mathlib.Core.Bool.{Bool, true, not}
 use mathlib.Core.List.{List, [], _∷_}
@@ -6,39 +7,65 @@ use mathlib.Core.Logic.{_⊎_}
 use Prim.Native.Nat.{ℕ, _+_, _*_, _-_, _<_, _≤_, _^_}
 use lib.Dec.{eqb}
 use lib.IntN.{ℤ}
-use Rattle.tables.specs.Block.{trains, scale, pairs, size, first, second}
-use Rattle.tables.specs.WellFormed.{freshBlock}
+use Rattle.tables.specs.Block.{trains, scale, pairs, constant, size, first, second, loadedChoice, loadedEntry}
+use Rattle.tables.specs.WellFormed.{wellFormed, freshBlock}
 use Rattle.tables.specs.Plans.{IsPlan, heldTotal}
 use Rattle.certificates.specs.Rival.{Rival, IsRival, ConstantAtMost}
 use Rattle.frames.specs.Fields.{field}
 use Rattle.lines.specs.Layout.{kindOf}
-use Rattle.lines.specs.declared.refusal.Refusal.the-variants.{PartsOutside}
-use Rattle.replies.specs.Replies.{boundOf, refusalReply, replyKind, figureWidth}
-use Rattle.claims.specs.Ledger.{Call, Entry, Ledger, lastBlock, entries, accepted, fed, ledgerOf, emptyLedger, costOf, hasLoad}
+use Rattle.replies.specs.Replies.{boundOf, refusalByte, replyKind, figureWidth, flag}
+use Rattle.claims.specs.Ledger.{Call, Entry, Ledger, lastBlock, blocks, entries, accepted, fed, ledgerOf, emptyLedger, costOf, hasLoad}
 
 -- a plan of a ledger
 abbrev pub PlanOf : Ledger → (ℕ → ℕ) → Type 0
 PlanOf g x = IsPlan (g .shape) x
+
+-- 's × its cost': every plan's total, in parts
+abbrev pub scaledCost : Ledger → (ℕ → ℕ) → ℕ
+scaledCost g x = g .scale * costOf g x
 
 -- ---- figures, read back from the reply's characters
 
 abbrev pub kindShown : List ℕ → ℕ
 kindShown reply = field reply 0 1
 
+-- 'FF and the number as one byte'
+abbrev pub numberShown : List ℕ → ℕ
+numberShown reply = field reply 1 1
+
+-- a reply that declines under the number n
+unfoldable pub DeclinedAs : ℕ → List ℕ → Type 0
+DeclinedAs n reply = (kindShown reply ≡ refusalByte) × (numberShown reply ≡ n)
+
+-- 12: 'c0 or an entry would end below 0 or above L'
+abbrev pub outside : ℕ
+outside = 12
+
+-- 16: 'block of another length or not well formed'
+abbrev pub malformed : ℕ
+malformed = 16
+
 -- '81 to 84, c0 in parts (6), bound in points (6)'
 abbrev pub boundShown : List ℕ → ℕ
 boundShown reply = field reply 7 figureWidth
 
--- '85, 01 if reached else 00, E (8), W (3)'
+-- '85, 01 if reached else 00, E (8), W (3)' and '86, 01 ended or 00 spent'
+abbrev pub flagShown : List ℕ → ℕ
+flagShown reply = field reply 1 1
+
 abbrev pub weightedShown : List ℕ → ℕ
 weightedShown reply = field reply 2 8
 
 abbrev pub wholeShown : List ℕ → ℕ
 wholeShown reply = field reply 10 3
 
+-- 'Reached means E = W × c0', c0 being the constant of the block b
+abbrev pub reaches : List ℤ → List ℕ → Bool
+reaches b reply = eqb (weightedShown reply) (wholeShown reply * constant b)
+
 -- '86, 01 ended or 00 spent, count (4), cost (6), one byte a train'
 abbrev pub saysEnded : List ℕ → Bool
-saysEnded reply = eqb (field reply 1 1) 1
+saysEnded reply = eqb (flagShown reply) 1
 
 abbrev pub costShown : List ℕ → ℕ
 costShown reply = field reply 6 figureWidth
@@ -50,49 +77,80 @@ planShown reply i = field reply (12 + i) 1
 abbrev pub showsPlan : List ℕ → Bool
 showsPlan reply = not (eqb (costShown reply) (256 ^ figureWidth - 1))
 
--- 's × its cost': every plan's total, in parts
-abbrev pub scaledCost : Ledger → (ℕ → ℕ) → ℕ
-scaledCost g x = g .scale * costOf g x
-
--- ---- what is claimed of one line and its reply, by the ledger g 'as it stands after that line'
+-- ---- what is claimed of an accepted line and its reply, by the ledger g 'as it stands after that line'
 
 pub record AtLine (g : Ledger) (e : Entry) : Type 0 where
-  -- 'Each bound that a reply shows beside c0 was, at its own line, at most every plan's cost'
-  pub bound : accepted (e .reply) ≡ true → kindShown (e .reply) ≤ replyKind 4 → (x : ℕ → ℕ) → PlanOf g x → boundShown (e .reply) ≤ costOf g x
-  -- 'W × the constant of every rival is at most E'
-  pub ceiling : accepted (e .reply) ≡ true → kindShown (e .reply) ≡ replyKind 5 → (r : Rival) → IsRival (g .shape) (scaledCost g) r
+  -- 'Kinds 01 to 04: 81 to 84', 'Certify: 85', 'Search: 86': an accepted line is answered under its own kind (`other-kind`)
+  pub kind : kindShown (e .reply) ≡ replyKind (kindOf (e .line))
+  -- 'Each bound that a reply shows beside c0 was, at its own line, at most every plan's cost' (`tightened-bound`, `high-bound`)
+  pub bound : kindShown (e .reply) ≤ replyKind 4 → (x : ℕ → ℕ) → PlanOf g x → boundShown (e .reply) ≤ costOf g x
+  -- 'The ceiling is E/W parts': W is above 0 (`no-whole`)
+  pub whole : kindShown (e .reply) ≡ replyKind 5 → 0 < wholeShown (e .reply)
+  -- 'W × the constant of every rival is at most E' (`certified-ceiling`, `low-ceiling`)
+  pub ceiling : kindShown (e .reply) ≡ replyKind 5 → (r : Rival) → IsRival (g .shape) (scaledCost g) r
       → ConstantAtMost (wholeShown (e .reply)) (weightedShown (e .reply)) r
-  -- 'every search reply that shows a plan, as each that says ended (01) does'
-  pub ended : accepted (e .reply) ≡ true → kindShown (e .reply) ≡ replyKind 6 → saysEnded (e .reply) ≡ true → showsPlan (e .reply) ≡ true
-  -- 'the cost shown is, at that line, that plan's cost'
-  pub shown : accepted (e .reply) ≡ true → kindShown (e .reply) ≡ replyKind 6 → showsPlan (e .reply) ≡ true
+  -- 'every search reply that shows a plan, as each that says ended (01) does' (`ended-without-plan`)
+  pub ended : kindShown (e .reply) ≡ replyKind 6 → saysEnded (e .reply) ≡ true → showsPlan (e .reply) ≡ true
+  -- 'the cost shown is, at that line, that plan's cost' (`absent-choice`, `other-cost`)
+  pub shown : kindShown (e .reply) ≡ replyKind 6 → showsPlan (e .reply) ≡ true
       → PlanOf g (planShown (e .reply)) × (costShown (e .reply) ≡ costOf g (planShown (e .reply)))
-  -- 'If it says ended, every other plan costs, at that line, at least as much'
-  pub least : accepted (e .reply) ≡ true → kindShown (e .reply) ≡ replyKind 6 → saysEnded (e .reply) ≡ true
+  -- 'If it says ended, every other plan costs, at that line, at least as much' (`worse-plan`)
+  pub least : kindShown (e .reply) ≡ replyKind 6 → saysEnded (e .reply) ≡ true
       → (x : ℕ → ℕ) → PlanOf g x → costShown (e .reply) ≤ costOf g x
-  -- 'From fresh by these lines only, add and tighten never give 12'
-  pub never : (kindOf (e .line) ≡ 2) ⊎ (kindOf (e .line) ≡ 4) → e .reply ≡ refusalReply PartsOutside → ⊥
 
--- the same of every line of a list, each by the ledger after it
-unfoldable pub EachLine : Ledger → List Entry → Type 0
-EachLine g [] = Unit {0}
-EachLine g (e ∷ es) = AtLine (fed e g) e × EachLine (fed e g) es
+-- ---- what is claimed of one call, which had the block b
+
+-- 'add and tighten'
+abbrev pub AddOrTighten : List ℕ → Type 0
+AddOrTighten l = (kindOf l ≡ 2) ⊎ (kindOf l ≡ 4)
+
+pub record AtCall (g : Ledger) (b : List ℤ) (e : Entry) : Type 0 where
+  -- 'A line is accepted if its reply isn't empty and doesn't begin with FF'
+  pub line : accepted (e .reply) ≡ true → AtLine g e
+  -- '01 if reached else 00' (`not-reached`, `reached-above`)
+  pub reached : accepted (e .reply) ≡ true → kindShown (e .reply) ≡ replyKind 5 → flagShown (e .reply) ≡ flag (reaches b (e .reply))
+  -- 'From fresh by these lines only, add and tighten never give 12' (`add-outside`, `tighten-outside`)
+  pub never-outside : AddOrTighten (e .line) → DeclinedAs outside (e .reply) → ⊥
+  -- no line of a list gives 16: each has 'the block that the call before left', 'the first has a fresh block' (`no-malformed`)
+  pub never-malformed : DeclinedAs malformed (e .reply) → ⊥
+
+-- the same of every call of a list, of as many blocks as lines, each by the ledger after its line (`last-call`, `as-many-blocks`)
+unfoldable pub EachCall : Ledger → List (List ℤ) → List Entry → Type 0
+EachCall g [] [] = Unit {0}
+EachCall g [] (e ∷ es) = ⊥
+EachCall g (b ∷ bs) [] = ⊥
+EachCall g (b ∷ bs) (e ∷ es) = AtCall (fed e g) b e × EachCall (fed e g) bs es
 
 -- ---- what is claimed of the whole list
 
-pub record AfterList (g : Ledger) (b : List ℤ) : Type 0 where
-  -- 'the block's n, s, sizes and pairs are the ledger's'
+-- the block b holds the ledger's study
+pub record SameStudy (g : Ledger) (b : List ℤ) : Type 0 where
+  -- 'the block's n, s, sizes and pairs are the ledger's' (`j-shape`)
   pub trains-same : trains b ≡ g .shape .trains
   pub scale-same : scale b ≡ g .scale
   pub sizes-same : (i : ℕ) → i < trains b → size b i ≡ g .shape .size i
   pub pairs-same : pairs b ≡ g .shape .pairs
   pub firsts-same : (k : ℕ) → k < pairs b → first b k ≡ g .shape .first k
   pub seconds-same : (k : ℕ) → k < pairs b → second b k ≡ g .shape .second k
-  -- 'every plan's total by c0 and T is s × its cost'
+  -- 'Loaded costs H' are the ledger's 'costs in points' (`j-costs`)
+  pub choices-same : (i a : ℕ) → i < trains b → a < size b i → loadedChoice b i a ≡ g .costs .choice i a
+  pub entries-same : (k a c : ℕ) → k < pairs b → a < size b (first b k) → c < size b (second b k) → loadedEntry b k a c ≡ g .costs .pair k a c
+
+pub record AfterList (g : Ledger) (b : List ℤ) : Type 0 where
+  pub same : SameStudy g b
+  -- 'every plan's total by c0 and T is s × its cost' (`j-total`)
   pub totals : (x : ℕ → ℕ) → PlanOf g x → heldTotal b x ≡ scaledCost g x
-  -- 'the published bound is at most every plan's cost'
+  -- 'the published bound is at most every plan's cost' (`j-bound`)
   pub bound : (x : ℕ → ℕ) → PlanOf g x → boundOf b ≤ costOf g x
 
-pub record Demand (calls : List Call) : Type 0 where
-  pub after : hasLoad (entries freshBlock calls) ≡ true → AfterList (ledgerOf emptyLedger (entries freshBlock calls)) (lastBlock freshBlock calls)
-  pub each : EachLine emptyLedger (entries freshBlock calls)
+-- of calls that had the blocks bs, whose lines with their replies are es, and which left the block b: 'one claim about the whole list'
+pub record Claimed (bs : List (List ℤ)) (es : List Entry) (b : List ℤ) : Type 0 where
+  -- with a load in the list or without, so that no later line gives 16 (`next-line`)
+  pub right : wellFormed b ≡ true
+  -- 'Claimed of every list with an accepted load' (`after`)
+  pub after : hasLoad es ≡ true → AfterList (ledgerOf emptyLedger es) b
+  pub each : EachCall emptyLedger bs es
+
+-- demand 3 of a list of calls: 'the first has a fresh block'
+abbrev pub Demand : List Call → Type 0
+Demand calls = Claimed (blocks freshBlock calls) (entries freshBlock calls) (lastBlock freshBlock calls)

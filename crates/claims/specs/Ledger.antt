@@ -28,6 +28,11 @@ unfoldable pub lastBlock : List ℤ → List Call → List ℤ
 lastBlock b [] = b
 lastBlock b (c ∷ cs) = lastBlock (answer (c .line) b (c .buffer) .block) cs
 
+-- the block that each call has, the first of them b
+unfoldable pub blocks : List ℤ → List Call → List (List ℤ)
+blocks b [] = []
+blocks b (c ∷ cs) = b ∷ blocks (answer (c .line) b (c .buffer) .block) cs
+
 -- the lines with their replies, in order
 unfoldable pub entries : List ℤ → List Call → List Entry
 entries b [] = []

@@ -3,4 +3,5 @@ pub mod Held
 pub mod Accepted
 pub mod LineAccepted
 pub mod LineKind
+pub mod LineRefused
 pub mod Examples

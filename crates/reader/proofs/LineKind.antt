@@ -1,37 +1,27 @@
--- The kind of an accepted line is its request's; and the reader declines no addition and no tightening under 12.
+-- The kind of an accepted line is its request's.
 use mathlib.Core.Path.{_≡_, refl, subst}
 use mathlib.Core.Bool.{Bool, true, false, cond, _&&_}
 use mathlib.Core.List.{List}
-use mathlib.Core.Logic.{_⊎_, inl, inr}
-use Prim.Native.Nat.{ℕ, _+_, _-_, _≤_}
+use Prim.Native.Nat.{ℕ, _≤_}
 use native.Mathlib.Omega.{arith}
 use lib.Dec.{leb, eqb}
 use lib.IntN.{ℤ}
 use borrow.Author.Tests.{eqb-true, eqb-false, leb-true}
-use Rattle.tables.specs.Block.{maxCost, trains, size}
+use Rattle.tables.specs.Block.{trains}
 use Rattle.tables.specs.WellFormed.{fresh}
 use Rattle.tables.proofs.Range.{both-true}
 use Rattle.frames.specs.declared.frame.NewFrame.{NewFrame}
 use Rattle.frames.specs.declared.frame.NewFrame.the-variants.{Within, Long, Broken}
 use Rattle.frames.specs.Frames.{newFrame}
-use Rattle.frames.specs.Digits.{bytes}
-use Rattle.frames.specs.Fields.{field}
-use Rattle.lines.specs.declared.refusal.Refusal.{Refusal}
-use Rattle.lines.specs.declared.refusal.Refusal.the-variants.{FreshBlock, Fields, Cost, Absent}
-use Rattle.lines.specs.declared.request.Rule.{Rule}
-use Rattle.lines.specs.declared.request.Rule.the-variants.{Between}
 use Rattle.lines.specs.declared.request.Verdict.{Verdict}
 use Rattle.lines.specs.declared.request.Verdict.the-variants.{Fine, Declined}
 use Rattle.lines.specs.declared.request.Request.{Request}
 use Rattle.lines.specs.declared.request.Request.the-variants.{Load, Add, Shift, Tighten, Certify, Search}
 use Rattle.lines.specs.declared.request.Line.{Line}
 use Rattle.lines.specs.declared.request.Line.the-variants.{Asked, Refused}
-use Rattle.lines.specs.Layout.{kindOf, costWidth, addTrain}
-use Rattle.lines.specs.Refusals.{refusalNumber}
-use Rattle.lines.specs.Verdicts.{then, unless, obeys, fieldVerdict, endVerdict, loadVerdict}
-use Rattle.reader.specs.Reading.{addRequest, concluded, addVerdict, moveCount, weightCount, shiftVerdict, tightenVerdict, certifyVerdict, searchVerdict, studyLine, kindLine, framedLine, lineOf}
-
--- ---- the kind of a request
+use Rattle.lines.specs.Layout.{kindOf}
+use Rattle.lines.specs.Verdicts.{loadVerdict}
+use Rattle.reader.specs.Reading.{concluded, addVerdict, moveCount, weightCount, shiftVerdict, tightenVerdict, certifyVerdict, searchVerdict, studyLine, kindLine, framedLine, lineOf}
 
 abbrev pub requestKind : Request → ℕ
 requestKind (Load q) = 1
@@ -91,68 +81,3 @@ module _ (l : List ℕ) (b : List ℤ) where
   -- an accepted line's first byte is its request's kind
   pub line-kind : (q : Request) → lineOf l b ≡ Asked q → kindOf l ≡ requestKind q
   line-kind q e = subst (λ (x : Line). Kind (kindOf l) x) e line-kind-of
-
--- ---- an addition or a tightening is declined by the reader under another number than 12
-
--- a verdict that declines, if it does, under another number
-abbrev Other : Verdict → Type 0
-Other Fine = Unit {0}
-Other (Declined r) = refusalNumber r ≡ 12 → ⊥
-
-other-then : (v w : Verdict) → Other v → Other w → Other (then v w)
-other-then Fine w p q = q
-other-then (Declined r) w p q = p
-
-other-unless : (t : Bool) (r : Refusal) → (refusalNumber r ≡ 12 → ⊥) → Other (unless t r)
-other-unless true r n = tt
-other-unless false r n = n
-
-other-field : (l : List ℕ) (at width : ℕ) (rule : Rule) (r : Refusal) → (refusalNumber r ≡ 12 → ⊥) → Other (fieldVerdict l at width rule r)
-unfolding fieldVerdict
-other-field l at width rule r n =
-    other-then (unless (leb (at + width) (bytes l)) Fields) (unless (obeys rule width (field l at width)) r) (other-unless (leb (at + width) (bytes l)) Fields (λ e. omega arith))
-    (other-unless (obeys rule width (field l at width)) r n)
-
-other-end : (l : List ℕ) (at : ℕ) → Other (endVerdict (bytes l) at)
-other-end l at = other-unless (eqb at (bytes l)) Fields (λ e. omega arith)
-
-other-add : (l : List ℕ) (b : List ℤ) → Other (addVerdict l b)
-unfolding addVerdict
-other-add l b =
-    let train = fieldVerdict l 1 1 (Between 0 (trains b - 1)) Absent in
-    let choice = fieldVerdict l 2 1 (Between 0 (size b (addTrain l) - 1)) Absent in
-    let points = fieldVerdict l 3 costWidth (Between 0 maxCost) Cost in
-    other-then train (then choice (then points (endVerdict (bytes l) 6))) (other-field l 1 1 (Between 0 (trains b - 1)) Absent (λ e. omega arith))
-    (other-then choice (then points (endVerdict (bytes l) 6)) (other-field l 2 1 (Between 0 (size b (addTrain l) - 1)) Absent (λ e. omega arith))
-    (other-then points (endVerdict (bytes l) 6) (other-field l 3 costWidth (Between 0 maxCost) Cost (λ e. omega arith)) (other-end l 6)))
-
--- the same of a line
-abbrev OtherLine : Line → Type 0
-OtherLine (Asked q) = Unit {0}
-OtherLine (Refused r) = refusalNumber r ≡ 12 → ⊥
-
-other-concluded : (v : Verdict) (q : Request) → Other v → OtherLine (concluded v q)
-other-concluded Fine q p = tt
-other-concluded (Declined r) q p = p
-
-other-fresh : (t : Bool) (x : Line) → OtherLine x → OtherLine (cond t (Refused FreshBlock) x)
-other-fresh true x p = λ e. omega arith
-other-fresh false x p = p
-
-module _ (l : List ℕ) (b : List ℤ) where
-  other-frame : OtherLine (kindLine l b) → OtherLine (lineOf l b)
-  unfolding lineOf
-  other-frame h = go (newFrame l)
-    where
-      go : (f : NewFrame) → OtherLine (framedLine f l b)
-      go Long = λ e. omega arith
-      go Broken = λ e. omega arith
-      go (Within f) = h
-
-  other-kind : (kindOf l ≡ 2) ⊎ (kindOf l ≡ 4) → OtherLine (kindLine l b)
-  unfolding kindLine studyLine
-  other-kind (inl e) = rw e (other-fresh (fresh b) (concluded (addVerdict l b) (addRequest l)) (other-concluded (addVerdict l b) (addRequest l) (other-add l b)))
-  other-kind (inr e) = rw e (other-fresh (fresh b) (concluded (tightenVerdict l) Tighten) (other-concluded (tightenVerdict l) Tighten (other-end l 1)))
-
-  pub line-refused : (r : Refusal) → (kindOf l ≡ 2) ⊎ (kindOf l ≡ 4) → lineOf l b ≡ Refused r → refusalNumber r ≡ 12 → ⊥
-  line-refused r k e = subst (λ (x : Line). OtherLine x) e (other-frame (other-kind k))

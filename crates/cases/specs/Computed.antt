@@ -1,0 +1,59 @@
+-- What the checker computes of a table: every definition on the answer's way is opened here, once. A definition that is new on that way is added here.
+use mathlib.Core.Bool.{cond}
+use mathlib.Core.List.{List, [], _∷_}
+use Prim.Native.Nat.{ℕ}
+use lib.Dec.{ltb}
+use lib.ListN.{length}
+use Rattle.units.specs.Units.{roundedUp}
+use Rattle.tables.specs.Sum.{sum}
+use Rattle.tables.specs.Range.{all, pass}
+use Rattle.tables.specs.Block.{figure}
+use Rattle.tables.specs.WellFormed.{within, choiceUsed, entryUsed, headLimits, shapeLimits, costLimits, limitsAt, placesRight, before, follows, pairRight, pairsRight, isZero, fresh, holdsStudy, wellFormed}
+use Rattle.tables.specs.Plans.{shapeOf, heldCosts}
+use Rattle.operations.specs.Fold.{iter, least}
+use Rattle.operations.specs.Add.{added}
+use Rattle.operations.specs.Load.{loadedBlock}
+use Rattle.rewriting.specs.Moves.{moveRun}
+use Rattle.shift.specs.Shift.{pairShifted, shifted}
+use Rattle.tighten.specs.Tighten.{runLeast, runTightened, pairTightened, tightened}
+use Rattle.certificates.specs.Certify.{trainBalanced, rowBalanced, columnBalanced, pairBalanced, balanced, overChoices, overPairs, weighted}
+use Rattle.frames.specs.Digits.{digit, digitOf, byteAt}
+use Rattle.frames.specs.Fields.{field, signed, fieldDigits}
+use Rattle.frames.specs.Frames.{allDigits, framed}
+use Rattle.frames.specs.Runs.{listFrom}
+use Rattle.lines.specs.declared.refusal.Refusal.the-variants.{Malformed}
+use Rattle.lines.specs.Layout.{pairAt}
+use Rattle.lines.specs.Numbers.{entriesOf, numbersOf}
+use Rattle.lines.specs.Verdicts.{firstOf, fieldVerdict, pairOrdered, pairVerdict, headVerdict, restVerdict, loadVerdict}
+use Rattle.reader.specs.Reading.{addVerdict, shiftVerdict, certifyVerdict, searchVerdict, studyLine, kindLine, lineOf}
+use Rattle.search.specs.Walk.{partialTotal, oneTry, triedFrom, openedTrain, searched}
+use Rattle.rows.specs.Added as adding
+use Rattle.search.specs.Answer.{searchAnswer}
+use Rattle.replies.specs.Replies.{refusalReply, boundReply, certifyReply, planDigits, searchReply}
+use Rattle.replies.specs.Wrote.{minBuffer}
+use Rattle.service.specs.Answer.{Answer, answered, requested, lineAnswer}
+use Rattle.cases.specs.Written.{text, zeros, marks, places, rows, grids, laid}
+use Rattle.cases.specs.Calls.{Block, held, Row, call, row, declined, declinedLong, silent, Left, leftBy, said}
+
+-- the answer on a block of which it is known whether it is well formed
+unfoldable pub answerOn : List ℕ → Block → List ℕ → Answer
+answerOn l b buffer =
+    cond (ltb (length buffer) minBuffer) (answered (b .numbers) [])
+    (cond (b .formed) (lineAnswer (lineOf l (b .numbers)) l (b .numbers)) (answered (b .numbers) (refusalReply Malformed)))
+
+-- what each call leaves. Whoever opens this name opens the definitions of rows and blocks, and, crate by crate, those on the answer's way
+unfoldable pub computed : List Row → List Left
+unfolding text zeros marks places rows grids laid held call row declined declinedLong silent leftBy said answerOn
+    roundedUp
+    sum all pass figure within choiceUsed entryUsed headLimits shapeLimits costLimits limitsAt placesRight before follows pairRight pairsRight isZero fresh holdsStudy wellFormed shapeOf heldCosts
+    iter least added loadedBlock
+    moveRun pairShifted shifted runLeast runTightened pairTightened tightened
+    trainBalanced rowBalanced columnBalanced pairBalanced balanced overChoices overPairs weighted
+    digit digitOf byteAt field signed fieldDigits allDigits framed listFrom
+    pairAt entriesOf numbersOf firstOf fieldVerdict pairOrdered pairVerdict headVerdict restVerdict loadVerdict
+    addVerdict shiftVerdict certifyVerdict searchVerdict studyLine kindLine lineOf
+    adding.added partialTotal oneTry triedFrom openedTrain searched searchAnswer
+    refusalReply boundReply certifyReply planDigits searchReply
+    requested
+computed [] = []
+computed (r ∷ rs) = leftBy (answerOn (r .line) (r .on) (marks (r .room))) (r .room) ∷ computed rs

@@ -1,0 +1,133 @@
+-- A shift line and the block afterwards, from the line's own characters: u_i and the moves are the numbers that stand at their offsets, and the block that an accepted line leaves
+-- has document 01's three equations by them. 12 is answered exactly where one of these numbers would be below 0 or above L.
+use mathlib.Core.Path.{_≡_, refl, ap, _∙_}
+use mathlib.Core.Bool.{Bool, true, false, cond}
+use mathlib.Core.List.{List, []}
+use mathlib.Core.Logic.{_↔_}
+use Prim.Native.Nat.{ℕ, _<_}
+use native.Mathlib.Omega.{arith}
+use lib.Dec.{ltb}
+use lib.IntN.{ℤ, pos}
+use lib.ListN.{length}
+use borrow.Author.Tests.{le-ltb, ltb-false}
+use Rattle.tables.specs.Block.{constantPlace, heldChoicePlace, heldEntryPlace, at, trains, pairs, size, first, second}
+use Rattle.tables.specs.WellFormed.{holdsStudy, wellFormed, Study}
+use Rattle.tables.proofs.Range.{not-both}
+use Rattle.tables.proofs.Study.{study-of}
+use Rattle.operations.specs.declared.outcome.Outcome.{Outcome}
+use Rattle.operations.specs.declared.outcome.Outcome.the-variants.{Done, PartsOutside as parts-outside}
+use Rattle.rewriting.specs.Ends.{Ends, endsOf, SameEnds, Outside, SomeEnd}
+use Rattle.shift.specs.Shift.{shifted, shiftOutcome, shiftBlock}
+use Rattle.shift.specs.Equations.{constantEnd, choiceEnd, entryEnd, shiftEnds}
+use Rattle.shift.proofs.Equations.{shifted-ends, shift-declined}
+use Rattle.frames.specs.Runs.{signedRunOf}
+use Rattle.frames.proofs.Lists.{list-nth}
+use Rattle.lines.specs.declared.refusal.Refusal.the-variants.{PartsOutside, Malformed}
+use Rattle.lines.specs.declared.request.Shift as declared-shift
+use Rattle.lines.specs.declared.request.Request.{Request}
+use Rattle.lines.specs.declared.request.Request.the-variants.{Load, Add, Shift, Tighten, Certify, Search}
+use Rattle.lines.specs.declared.request.Line.{Line}
+use Rattle.lines.specs.declared.request.Line.the-variants.{Asked, Refused}
+use Rattle.lines.specs.Layout.{kindOf, moveWidth, liftsAt, movesAt, shiftLift, shiftMove}
+use Rattle.reader.specs.Reading.{moveCount, lineOf}
+use Rattle.reader.proofs.LineAccepted.{Makes, line-makes}
+use Rattle.reader.proofs.LineKind.{requestKind, line-kind}
+use Rattle.replies.specs.Replies.{refusalReply}
+use Rattle.replies.specs.Wrote.{minBuffer}
+use Rattle.service.specs.Answer.{answered, declined, operated, requested, lineAnswer, answer}
+use Rattle.service.specs.Wrote.{Asks}
+use Rattle.claims.specs.Ledger.{accepted}
+use Rattle.claims.proofs.ReadBack.{refusal-refused, bound-accepted}
+
+-- where a shift line's own numbers lead
+abbrev pub lineEnds : List ℕ → List ℤ → Ends
+lineEnds l b = shiftEnds (shiftLift l) (shiftMove l (trains b)) b
+
+-- ---- a line that makes a request
+
+pub record Asking (l : List ℕ) (b : List ℤ) (buffer : List ℕ) : Type 0 where
+  pub request : Request
+  pub asks : Asks l b request buffer
+
+-- an accepted line makes one
+pub accepted-asks : (l : List ℕ) (b : List ℤ) (buffer : List ℕ) → accepted (answer l b buffer .reply) ≡ true → Asking l b buffer
+unfolding answer accepted
+accepted-asks l b buffer = go (ltb (length buffer) minBuffer) (wellFormed b) (lineOf l b) refl refl refl
+  where
+    go : (t u : Bool) (x : Line) → ltb (length buffer) minBuffer ≡ t → wellFormed b ≡ u → lineOf l b ≡ x
+        → accepted (cond t (answered b []) (cond u (lineAnswer x l b) (declined b Malformed)) .reply) ≡ true → Asking l b buffer
+    go true u x e f g y = let z : _≡_ {A = ℕ} 0 1 = cc in absurd (omega arith)
+    go false false x e f g y = absurd (not-both y (refusal-refused Malformed))
+    go false true (Asked q) e f g y = record { request = q; asks = record { room = ltb-false (length buffer) minBuffer e; right = f; asked = g } }
+    go false true (Refused r) e f g y = absurd (not-both y (refusal-refused r))
+
+-- ---- a line that asks for a shift
+
+module _ (l : List ℕ) (b : List ℤ) (buffer : List ℕ) (q : declared-shift.Shift) (a : Asks l b (Shift q) buffer) where
+  abbrev lifts : List ℤ
+  lifts = signedRunOf l liftsAt moveWidth (trains b)
+
+  abbrev moves : List ℤ
+  moves = signedRunOf l (movesAt (trains b)) moveWidth (moveCount b)
+
+  made : Makes l b (Shift q)
+  made = line-makes l b (Shift q) (a .asked) .1
+
+  study : Study b
+  study = study-of b (a .right) (made .2)
+
+  answer-is : answer l b buffer ≡ operated 3 (shiftOutcome lifts moves b) b (shiftBlock lifts moves b)
+  unfolding answer requested
+  answer-is = rw (le-ltb (length buffer) minBuffer (a .room), a .right, a .asked) (ap (λ (r : Request). requested r l b) (made .0))
+
+  -- the numbers of the two lists stand in the line
+  lift-is : (i : ℕ) → i < trains b → at lifts i ≡ shiftLift l i
+  lift-is i h = list-nth (shiftLift l) (pos 0) (trains b) i h
+
+  move-is : (n : ℕ) → n < moveCount b → at moves n ≡ shiftMove l (trains b) n
+  move-is n h = list-nth (shiftMove l (trains b)) (pos 0) (moveCount b) n h
+
+  -- an accepted one leaves its own numbers
+  asked-ends : accepted (answer l b buffer .reply) ≡ true → SameEnds b (endsOf (answer l b buffer .block)) (lineEnds l b)
+  asked-ends = rw answer-is (go (holdsStudy (shifted lifts moves b)))
+    where
+      go : (t : Bool) → accepted (operated 3 (cond t Done parts-outside) b (cond t (shifted lifts moves b) b) .reply) ≡ true
+          → SameEnds b (endsOf (operated 3 (cond t Done parts-outside) b (cond t (shifted lifts moves b) b) .block)) (lineEnds l b)
+      go true y = shifted-ends study lifts moves (shiftLift l) (shiftMove l (trains b)) lift-is move-is
+      go false y = absurd (not-both y (refusal-refused PartsOutside))
+
+  -- 12 exactly where one of them would be below 0 or above L
+  pub shift-line-declined : (answer l b buffer .reply ≡ refusalReply PartsOutside) ↔ SomeEnd Outside b (lineEnds l b)
+  shift-line-declined =
+      let d = shift-declined study lifts moves (shiftLift l) (shiftMove l (trains b)) lift-is move-is in
+      rw answer-is
+      ((λ e. d .0 (go (holdsStudy (shifted lifts moves b)) e)), (λ w. ap (λ (o : Outcome). operated 3 o b (shiftBlock lifts moves b) .reply) (d .1 w)))
+    where
+      go : (t : Bool) → operated 3 (cond t Done parts-outside) b (cond t (shifted lifts moves b) b) .reply ≡ refusalReply PartsOutside → cond t Done parts-outside ≡ parts-outside
+      go true e = absurd (not-both (bound-accepted 3 (shifted lifts moves b) (omega arith)) (ap accepted e ∙ refusal-refused PartsOutside))
+      go false e = refl
+
+-- 'c0 grows by the sum of u_i', and the other two equations: the block that an accepted line of kind 03 leaves
+pub shift-line : (l : List ℕ) (b : List ℤ) (buffer : List ℕ) → kindOf l ≡ 3 → accepted (answer l b buffer .reply) ≡ true
+    → SameEnds b (endsOf (answer l b buffer .block)) (lineEnds l b)
+shift-line l b buffer k y = let w = accepted-asks l b buffer y in go (w .request) (w .asks) (line-kind l b (w .request) (w .asks .asked))
+  where
+    go : (q : Request) → Asks l b q buffer → kindOf l ≡ requestKind q → SameEnds b (endsOf (answer l b buffer .block)) (lineEnds l b)
+    go (Load q) a e = absurd (omega arith)
+    go (Add q) a e = absurd (omega arith)
+    go (Shift q) a e = asked-ends l b buffer q a y
+    go Tighten a e = absurd (omega arith)
+    go (Certify q) a e = absurd (omega arith)
+    go (Search q) a e = absurd (omega arith)
+
+-- the three equations, each by itself
+module _ (l : List ℕ) (b : List ℤ) (buffer : List ℕ) (k : kindOf l ≡ 3) (y : accepted (answer l b buffer .reply) ≡ true) where
+  pub shift-constant : at (answer l b buffer .block) constantPlace ≡ constantEnd (shiftLift l) b
+  shift-constant = shift-line l b buffer k y .constant
+
+  pub shift-choice : (i a : ℕ) → i < trains b → a < size b i → at (answer l b buffer .block) (heldChoicePlace i a) ≡ choiceEnd (shiftLift l) (shiftMove l (trains b)) b i a
+  shift-choice = shift-line l b buffer k y .choice
+
+  pub shift-entry : (m a c : ℕ) → m < pairs b → a < size b (first b m) → c < size b (second b m)
+      → at (answer l b buffer .block) (heldEntryPlace m a c) ≡ entryEnd (shiftMove l (trains b)) b m a c
+  shift-entry = shift-line l b buffer k y .entry

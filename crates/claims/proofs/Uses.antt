@@ -1,0 +1,216 @@
+-- What follows from each part of demand 3's statement (specs/Claims.antt), on document 01's J and its session: what the replies there say, and wrong replies that the statement excludes. Each law
+-- has the statement as its premise, not the service, so a part that said less would leave its law here without a proof.
+use mathlib.Core.Path.{_≡_, refl, subst}
+use mathlib.Core.Bool.{cond, _&&_}
+use mathlib.Core.List.{List, [], _∷_}
+use mathlib.Core.Logic.{inl, inr}
+use Prim.Native.Char.{code}
+use Prim.Native.Nat.{ℕ, zero, suc, _<_, _≤_}
+use Prim.Native.String.{String, [] as empty, _∷_ as char-then}
+use native.Mathlib.Omega.{arith}
+use lib.Dec.{eqb}
+use lib.IntN.{ℤ}
+use lib.ListN.{length, take}
+use borrow.Author.Tests.{le-ltb}
+use Rattle.tables.specs.Sum.{sum}
+use Rattle.tables.specs.Block.{trains, scale, pairs, constant, size, first, second, loadedChoice, loadedEntry}
+use Rattle.tables.specs.WellFormed.{freshBlock}
+use Rattle.tables.specs.Plans.{IsPlan, choiceTotal, pairTotal, total, heldTotal}
+use Rattle.tables.proofs.Range.{not-both}
+use Rattle.certificates.specs.Rival.{whole, plus, times, sumOf, Same, AtMost, Rival, rivalTotal, IsRival, ConstantAtMost}
+use Rattle.frames.specs.Digits.{digit, byteAt}
+use Rattle.frames.specs.Fields.{field}
+use Rattle.frames.specs.Runs.{listFrom}
+use Rattle.lines.specs.Layout.{pairAt}
+use Rattle.lines.specs.Numbers.{entriesOf, numbersOf}
+use Rattle.reader.specs.Reading.{lineOf}
+use Rattle.replies.specs.Replies.{boundOf}
+use Rattle.replies.specs.Wrote.{minBuffer}
+use Rattle.service.specs.Answer.{lineAnswer, answer}
+use Rattle.claims.specs.Ledger.{Entry, Ledger, accepted, loadedLedger, emptyLedger, fed, ledgerOf, costOf, hasLoad}
+use Rattle.claims.specs.Claims.{PlanOf, DeclinedAs, scaledCost, AtLine, AtCall, EachCall, AfterList, Claimed}
+use Rattle.claims.specs.Seen.{Seen, Chained, seenBlocks, seenEntries}
+use Rattle.claims.proofs.Lines.{entry}
+use Rattle.claims.proofs.Seen.{seen-demand}
+
+-- the characters of a text
+unfoldable codes : String → List ℕ
+codes empty = []
+codes (char-then c s) = code c ∷ codes s
+
+-- a line and its reply, to be computed: whoever opens this name opens each definition on the way from characters to the ledger's costs
+unfoldable told : String → String → Entry
+unfolding codes digit byteAt field listFrom pairAt entriesOf numbersOf sum choiceTotal pairTotal total accepted fed ledgerOf hasLoad
+told l r = entry (codes l) (codes r)
+
+-- 'J is the first line above, loaded': by its ledger the plans 00, 01, 10 and 11 cost 3, 2, 3 and 2
+unfoldable load : String
+load = "010200010202000002000000000000000000010001000001000000000003000002"
+
+unfoldable j : Ledger
+unfolding load codes
+j = loadedLedger (codes load)
+
+-- the plan of two trains that takes a and c
+plan : ℕ → ℕ → ℕ → ℕ
+plan a c i = cond (eqb i 0) a c
+
+plan-01 : PlanOf j (plan 0 1)
+unfolding told load j plan IsPlan
+plan-01 zero h = omega arith
+plan-01 (suc zero) h = omega arith
+plan-01 (suc (suc i)) h = let q : suc (suc i) < 2 = h in absurd (omega arith)
+
+-- ---- wrong replies to lines on J
+
+-- an 01 line answered under 84
+other-kind : AtLine j (told load "84000000000000000000000000") → ⊥
+unfolding told load
+other-kind a = let h : _≡_ {A = ℕ} 132 129 = a .kind in omega arith
+
+-- a bound of 3, above the cost of plan 01
+high-bound : AtLine j (told load "81000000000000000000000003") → ⊥
+unfolding told load j plan
+high-bound a = let h : 3 ≤ 2 = a .bound (omega arith) (plan 0 1) plan-01 in omega arith
+
+-- W of 0
+no-whole : AtLine j (told "05" "85010000000000000002000000") → ⊥
+unfolding told
+no-whole a = let h : 0 < 0 = a .whole refl in omega arith
+
+-- a ceiling of 1: J tightened is a rival with a constant of 2, of which choice 0 of train 1 costs 1 and all else nothing
+rival : Rival
+rival = record { gain = whole 2; loss = whole 0; choice = λ i a. whole (cond (eqb i 1 && eqb a 0) 1 0); pair = λ k a c. whole 0 }
+
+-- it gives plan (a, c) its cost
+same-cost : (a c : ℕ) → a < 2 → c < 2 → Same (rivalTotal (j .shape) rival (plan a c)) (plus (whole (scaledCost j (plan a c))) (whole 0))
+unfolding told load j plan rival Same rivalTotal sumOf plus whole
+same-cost zero zero h k = refl
+same-cost zero (suc zero) h k = refl
+same-cost (suc zero) zero h k = refl
+same-cost (suc zero) (suc zero) h k = refl
+same-cost (suc (suc a)) c h k = absurd (omega arith)
+same-cost zero (suc (suc c)) h k = absurd (omega arith)
+same-cost (suc zero) (suc (suc c)) h k = absurd (omega arith)
+
+is-rival : IsRival (j .shape) (scaledCost j) rival
+unfolding told load j plan rival IsRival IsPlan Same rivalTotal sumOf plus whole
+is-rival x p = same-cost (x 0) (x 1) (p 0 (omega arith)) (p 1 (omega arith))
+
+low-ceiling : AtLine j (told "05" "85000000000000000001000001") → ⊥
+unfolding told load rival ConstantAtMost AtMost times plus whole
+low-ceiling a = let h : 2 ≤ 1 = a .ceiling refl rival is-rival in omega arith
+
+-- ended, with no plan
+ended-without-plan : AtLine j (told "06" "860100000004FFFFFFFFFFFFFFFF") → ⊥
+unfolding told
+ended-without-plan a = not-both (a .ended refl refl) refl
+
+-- choice 2 of train 1
+absent-choice : AtLine j (told "06" "8600000000030000000000020002") → ⊥
+unfolding told load j IsPlan
+absent-choice a = let h : 2 < 2 = a .shown refl refl .0 1 (omega arith) in omega arith
+
+-- plan 01 at a cost of 3
+other-cost : AtLine j (told "06" "8600000000030000000000030001") → ⊥
+unfolding told load j
+other-cost a = let h : _≡_ {A = ℕ} 3 2 = a .shown refl refl .1 in omega arith
+
+-- ended with plan 00, which costs 3
+worse-plan : AtLine j (told "06" "8601000000040000000000030000") → ⊥
+unfolding told load j plan
+worse-plan a = let h : 3 ≤ 2 = a .least refl refl (plan 0 1) plan-01 in omega arith
+
+module _ (g : Ledger) (b : List ℤ) where
+  -- E = W × c0, but 00; and 01, but E above it
+  not-reached : constant b ≡ 2 → AtCall g b (told "05" "85000000000000000002000001") → ⊥
+  unfolding told
+  not-reached e a = let h : _≡_ {A = ℕ} 0 1 = rw e at (a .reached refl refl) in omega arith
+
+  reached-above : constant b ≡ 1 → AtCall g b (told "05" "85010000000000000002000001") → ⊥
+  unfolding told
+  reached-above e a = let h : _≡_ {A = ℕ} 1 0 = rw e at (a .reached refl refl) in omega arith
+
+  -- 12 to an addition and to a tightening, 16 to any line
+  add-outside : AtCall g b (told "020000000001" "FF0C") → ⊥
+  unfolding told DeclinedAs
+  add-outside a = a .never-outside (inl refl) (refl, refl)
+
+  tighten-outside : AtCall g b (told "04" "FF0C") → ⊥
+  unfolding told DeclinedAs
+  tighten-outside a = a .never-outside (inr refl) (refl, refl)
+
+  no-malformed : (l : List ℕ) → AtCall g b (entry l (told "" "FF10" .reply)) → ⊥
+  unfolding told DeclinedAs
+  no-malformed l a = a .never-malformed (refl, refl)
+
+-- ---- document 01's session
+
+unfoldable session : List Entry
+unfolding told load
+session =
+    told load "81000000000000000000000000"
+    ∷ told "04" "84000000000002000000000002"
+    ∷ told "05000001000001000000000000000001000000000001000000000000" "85010000000000000002000001"
+    ∷ told "060000000A" "8601000000040000000000020001"
+    ∷ []
+
+-- a list has a block for each line
+as-many-blocks : {b : List ℤ} → Claimed [] session b → ⊥
+unfolding session EachCall
+as-many-blocks d = d .each
+
+module _ {b₀ b₁ b₂ b₃ b : List ℤ} (d : Claimed (b₀ ∷ b₁ ∷ b₂ ∷ b₃ ∷ []) session b) where
+  -- what the tightening, the certificate and the search show
+  tightened-bound : (x : ℕ → ℕ) → PlanOf j x → 2 ≤ costOf j x
+  unfolding told load j session EachCall
+  tightened-bound = d .each .1 .0 .line refl .bound (omega arith)
+
+  certified-ceiling : (r : Rival) → IsRival (j .shape) (scaledCost j) r → ConstantAtMost 1 2 r
+  unfolding told load j session EachCall
+  certified-ceiling = d .each .1 .1 .0 .line refl .ceiling refl
+
+  last-call : (x : ℕ → ℕ) → PlanOf j x → 2 ≤ costOf j x
+  unfolding told load j session EachCall
+  last-call = d .each .1 .1 .1 .0 .line refl .least refl refl
+
+  -- the block that is left
+  after : AfterList j b
+  unfolding told load j session
+  after = d .after refl
+
+  j-shape : (trains b ≡ 2) × (scale b ≡ 1) × (size b 0 ≡ 2) × (pairs b ≡ 1) × (first b 0 ≡ 0) × (second b 0 ≡ 1)
+  unfolding told load j
+  j-shape =
+      let s = after .same in
+      (s .trains-same, s .scale-same, s .sizes-same 0 (omega (arith, s .trains-same)), s .pairs-same, s .firsts-same 0 (omega (arith, s .pairs-same)), s .seconds-same 0 (omega (arith, s .pairs-same)))
+
+  j-costs : (loadedChoice b 0 0 ≡ 2) × (loadedEntry b 0 0 0 ≡ 1)
+  unfolding told load j
+  j-costs =
+      let s = after .same in
+      let e = j-shape in (
+        s .choices-same 0 0 (omega (arith, e .0)) (omega (arith, e .2)),
+        s .entries-same 0 0 0 (omega (arith, e .3)) (rw (e .4) (omega (arith, e .2))) (rw (e .5, s .sizes-same 1 (omega (arith, e .0))) (omega arith)),
+      )
+
+  j-total : heldTotal b (plan 0 1) ≡ 2
+  unfolding told load j plan
+  j-total = after .totals (plan 0 1) plan-01
+
+  j-bound : boundOf b ≤ 2
+  unfolding told load j plan
+  j-bound = after .bound (plan 0 1) plan-01
+
+-- a call on the block that a list left is answered by its line: never with 16
+next-line : {bs : List (List ℤ)} {es : List Entry} {b : List ℤ} → Claimed bs es b → (l buffer : List ℕ) → minBuffer ≤ length buffer → answer l b buffer ≡ lineAnswer (lineOf l b) l b
+unfolding answer
+next-line d l buffer h = rw (le-ltb (length buffer) minBuffer h, d .right) refl
+
+-- ---- what a caller saw
+
+-- J and its tightening were answered as in the session, by calls that met the contract: no plan of J costs less than 2
+seen-bound : (s t : Seen) → Chained freshBlock (s ∷ t ∷ []) → seenEntries (s ∷ t ∷ []) ≡ take 2 session → (x : ℕ → ℕ) → PlanOf j x → 2 ≤ costOf j x
+unfolding told load j session EachCall seenBlocks
+seen-bound s t c e = let d : EachCall emptyLedger (s .block ∷ t .block ∷ []) (take 2 session) = subst (EachCall emptyLedger (s .block ∷ t .block ∷ [])) e (seen-demand (s ∷ t ∷ []) c .each) in
+    d .1 .0 .line refl .bound (omega arith)
