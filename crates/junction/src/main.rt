@@ -2,9 +2,11 @@
 ghost use mathlib.Core.Path.{_≡_};
 ghost use mathlib.Core.Bool.{true};
 ghost use Prim.Native.Nat.{_≤_};
+ghost use lib.IntN.{pos};
 ghost use lib.ListN.{length, take};
-ghost use Rattle.stream.specs.Parts.{keptMost, overPart};
-ghost use Rattle.stream.specs.Steps.{Leaves};
+ghost use Rattle.io.specs.Counts.{clamped};
+ghost use Rattle.stream.specs.Parts.{overPart, lastAnswer};
+ghost use Rattle.stream.specs.Steps.{Leaves, AfterParts, StepPrints, EndPrints};
 use libc::STDIN_FILENO;
 use libc::STDOUT_FILENO;
 use stream::splitting;
@@ -24,6 +26,25 @@ struct Kept {
     on: bool,
 }
 
+// Reads from standard input, and does nothing else: the bytes go to the front of the array, and it answers how many, 0 at the end of the input, below 0 where the read fails.
+fn read(bytes: &mut [u8; INPUT]) -> isize {
+    libc::read(STDIN_FILENO, bytes)
+}
+
+// Writes what a step on a part prints to standard output, and does nothing else. Part and block stand here for the contract alone.
+fn print_step(part: &[u8], block: &[i64; Block::LENGTH], reply: &[u8]) -> bool
+    requires { ⌜ StepPrints (now part) (now block) (now reply) ⌝ }
+{
+    io::write_all(STDOUT_FILENO, reply)
+}
+
+// The same at the end of the input, where `kept` characters of the last line are kept.
+fn print_end(line: &[u8; KEPT], kept: usize, block: &[i64; Block::LENGTH], reply: &[u8]) -> bool
+    requires { ⌜ EndPrints (take kept (now line)) (now block) (now reply) ⌝ }
+{
+    io::write_all(STDOUT_FILENO, reply)
+}
+
 // Answers the lines that end in the first n bytes, each with one write. It goes on unless a write fails.
 fn answer_part(
     bytes: &[u8],
@@ -33,19 +54,19 @@ fn answer_part(
     block: &mut [i64; Block::LENGTH],
 ) -> Kept
     requires { ⌜ n ≤ length (now bytes) ⌝ }
-    requires { ⌜ kept ≤ keptMost ⌝ }
-    ensures { λ r. ⌜ r .length ≤ keptMost ⌝ }
+    requires { ⌜ AfterParts (now line) (now block) kept ⌝ }
     ensures { λ r. ⌜ (r .on ≡ true → Leaves (overPart (take kept (now (line .entry))) (now (block .entry)) (take n (now (bytes .entry)))) (now (line .exit)) (now (block .exit)) (r .length)) ⌝ }
 {
     let mut reply = [0u8; REPLY];
     let mut length = kept;
     let mut at = 0;
     while at < n {
-        let step = splitting::next_line(&bytes[at..n], line, length, block, &mut reply);
+        let rest = &bytes[at..n];
+        let step = splitting::next_line(rest, line, length, block, &mut reply);
         length = step.kept;
         at += step.used;
         let written = step.written;
-        if !io::write_all(STDOUT_FILENO, &reply[..written]) {
+        if !print_step(rest, block, &reply[..written]) {
             return Kept {
                 length: length,
                 on: false,
@@ -58,29 +79,28 @@ fn answer_part(
     }
 }
 
-// 'A last line without a line end is a line too, unless empty.'
+// At the end of the input: 'A last line without a line end is a line too, unless empty.'
 fn answer_last(line: &[u8; KEPT], kept: usize, block: &mut [i64; Block::LENGTH])
-    requires { ⌜ kept ≤ keptMost ⌝ }
+    requires { ⌜ AfterParts (now line) (now block) kept ⌝ }
+    ensures { λ _. ⌜ now (block .exit) ≡ lastAnswer (take kept (now (line .entry))) (now (block .entry)) .block ⌝ }
 {
-    if kept == 0 {
-        return;
-    }
     let mut reply = [0u8; REPLY];
-    let n = splitting::reply_line(line, kept, block, &mut reply);
-    io::write_all(STDOUT_FILENO, &reply[..n]);
+    let n = splitting::last_line(line, kept, block, &mut reply);
+    print_end(line, kept, block, &reply[..n]);
 }
 
-// Reads once and answers what came. It ends at the end of the input, where a read fails and where a write fails.
+// After a read that answered `got`: answers what came, at the end of the input the last line. It goes on unless the input has ended, or a read or a write failed.
 fn answer_read(
-    bytes: &mut [u8; INPUT],
+    got: isize,
+    bytes: &[u8; INPUT],
     line: &mut [u8; KEPT],
     kept: usize,
     block: &mut [i64; Block::LENGTH],
 ) -> Kept
-    requires { ⌜ kept ≤ keptMost ⌝ }
-    ensures { λ r. ⌜ r .length ≤ keptMost ⌝ }
+    requires { ⌜ AfterParts (now line) (now block) kept ⌝ }
+    ensures { λ r. ⌜ (r .on ≡ true → Leaves (overPart (take kept (now (line .entry))) (now (block .entry)) (take (clamped got (length (now (bytes .entry)))) (now (bytes .entry)))) (now (line .exit)) (now (block .exit)) (r .length)) ⌝ }
+    ensures { λ r. ⌜ (got ≡ pos 0 → now (block .exit) ≡ lastAnswer (take kept (now (line .entry))) (now (block .entry)) .block) ⌝ }
 {
-    let got = libc::read(STDIN_FILENO, bytes);
     if got < 0 {
         return Kept {
             length: kept,
@@ -105,7 +125,8 @@ fn main() {
     let mut length = 0;
     let mut reads = READS;
     while 0 < reads {
-        let kept = answer_read(&mut bytes, &mut line, length, &mut block);
+        let got = read(&mut bytes);
+        let kept = answer_read(got, &bytes, &mut line, length, &mut block);
         if !kept.on {
             return;
         }

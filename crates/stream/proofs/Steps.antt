@@ -10,7 +10,7 @@ use lib.Dec.{ltb}
 use lib.IntN.{ℤ}
 use lib.ListN.{length, take, drop, set, getD, length-take, length-append, length-replicate}
 use lib.Seq.{paste, take-all, take-take, take-append-add, take-paste, length-take-le, drop-cons, set-at}
-use borrow.Author.Tests.{lt-ltb, le-ltb, ltb-true, ltb-false}
+use borrow.Author.Tests.{lt-ltb, le-ltb, ltb-true, ltb-false, ne-eqb}
 use Rattle.replies.specs.Wrote.{minBuffer, Wrote}
 use Rattle.replies.proofs.Writing.{wrote-none, wrote-length}
 use Rattle.service.specs.Answer.{Answer, answered, answer}
@@ -18,9 +18,9 @@ use Rattle.service.specs.Wrote.{Answers}
 use Rattle.service.proofs.Answers.{buffer-apart}
 use Rattle.service.proofs.Calls.{reply-short}
 use Rattle.stream.specs.Session.{lineFeed, lineCall}
-use Rattle.stream.specs.Parts.{lineLength, keptMost, lengthened, answerLine, Taken, nextLine}
+use Rattle.stream.specs.Parts.{lineLength, keptMost, lengthened, answerLine, Taken, nextLine, lastAnswer}
 use Rattle.stream.specs.Steps.{Steps}
-use Rattle.stream.proofs.Lines.{line-length-most}
+use Rattle.stream.proofs.Lines.{line-length-most, line-length-taken}
 
 -- ---- the kept line
 
@@ -139,3 +139,26 @@ module _ (line : List ℕ) (b : List ℤ) (part : List ℕ) where
   pub kept-within : length (nextLine line b part .line) ≤ keptMost
   unfolding lengthened
   kept-within = by-end (λ t. length (t .line) ≤ keptMost) (λ h. omega arith) (λ h. omega (arith, length-take keptMost (line ++ take (lineLength part) part)))
+
+  -- a step depends on what it takes and on nothing behind it
+  pub next-taken : nextLine line b (take (nextLine line b part .used) part) ≡ nextLine line b part
+  unfolding lengthened
+  next-taken = by-end (λ t. nextLine line b (take (t .used) part) ≡ t) ended (λ h. ap (nextLine line b) (take-all (lineLength part) part h) ∙ next-open line b part h)
+    where
+      ended : lineLength part < length part → nextLine line b (take (suc (lineLength part)) part) ≡ record { used = suc (lineLength part); line = []; answer = answerLine (lengthened line (lineLength part) part) b }
+      ended h =
+          let n = lineLength part in
+          let e = line-length-taken part h in
+          let k = length-take-le (suc n) part h in
+          next-ended line b (take (suc n) part) (omega (arith, e, k)) ∙ rw (e, take-take n (suc n) part (omega arith))
+
+-- ---- a last line without a line end
+
+module _ (line : List ℕ) (kept : ℕ) (b : List ℤ) (buffer : List ℕ) (there : kept ≤ length line) where
+  pub last-none : kept ≡ 0 → Answers (lastAnswer (take kept line) b) buffer b buffer 0
+  unfolding lastAnswer
+  last-none e = rw e (record { block = refl; reply = wrote-none })
+
+  pub last-some : {left : List ℤ} {after : List ℕ} {n : ℕ} → (kept ≡ 0 → ⊥) → Answers (answerLine (take kept line) b) buffer left after n → Answers (lastAnswer (take kept line) b) buffer left after n
+  unfolding lastAnswer
+  last-some e a = rw (ne-eqb (length (take kept line)) 0 (λ z. e (omega (arith, length-take-le kept line there)))) a

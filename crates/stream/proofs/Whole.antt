@@ -1,8 +1,8 @@
--- However an input is cut into parts, what is printed is what the definition prints on the whole input. A step takes the line to its end; of a line that is longer than a
+-- However an input is cut into parts, what is printed is what the definition prints on the whole input, and what is printed so far is a front of it. A step takes the line to its end; of a line that is longer than a
 -- line may be only the front is kept, and it is declined like the whole line.
 use mathlib.Core.Path.{_≡_, refl, sym, _∙_, ap}
 use mathlib.Core.Bool.{Bool, true, false, cond}
-use mathlib.Core.List.{List, [], _∷_, _++_, append-assoc, append-nil}
+use mathlib.Core.List.{List, [], _∷_, _++_, flatten, IsPrefix, append-assoc, append-nil}
 use Prim.Native.Nat.{ℕ, zero, suc, _<_, _≤_}
 use native.Mathlib.Omega.{arith}
 use lib.Dec.{ltb, eqb}
@@ -12,12 +12,13 @@ use lib.Seq.{take-all, take-take, take-append-le, length-take-le}
 use borrow.Author.Tests.{ltb-true, ltb-false, ne-eqb}
 use Rattle.tables.specs.WellFormed.{freshBlock}
 use Rattle.frames.specs.Frames.{maxCharacters}
+use Rattle.service.specs.Answer.{answered}
 use Rattle.service.proofs.Answers.{long-alike}
 use Rattle.claims.specs.Claims.{Demand}
 use Rattle.claims.specs.Ledger.{entries}
 use Rattle.claims.proofs.Demand.{demand}
-use Rattle.stream.specs.Session.{lineFeed, lineCall, lineCalls, linesFrom, inputLines, replyLines, printed}
-use Rattle.stream.specs.Parts.{lineLength, keptMost, lengthened, answerLine, Shown, steps, lastLine, byParts, joined}
+use Rattle.stream.specs.Session.{lineFeed, noLine, lineCall, lineCalls, linesFrom, inputLines, replyLines, printedFrom, printed}
+use Rattle.stream.specs.Parts.{lineLength, keptMost, lengthened, answerLine, Shown, steps, overPart, start, overMore, overParts, lastAnswer, byParts}
 use Rattle.stream.proofs.Steps.{next-open, next-ended}
 
 -- ---- the front that is kept
@@ -44,9 +45,13 @@ kept-more most l p = go (ltb (length l) most) refl
         take-append-le most (take most l) p (omega (arith, length-take-le most l h)) ∙ take-take most most l (omega arith) ∙ sym (take-append-le most l p h)
 
 -- none of a line is kept only where it is empty
-kept-empty : (l : List ℕ) → eqb (length (take keptMost l)) 0 ≡ eqb (length l) 0
+kept-empty : (l : List ℕ) → noLine (take keptMost l) ≡ noLine l
 kept-empty [] = refl
 kept-empty (c ∷ l) = rw (ne-eqb (length (take keptMost (c ∷ l))) 0 (λ e. omega (arith, length-take keptMost (c ∷ l))), ne-eqb (length {A = ℕ} (c ∷ l)) 0 (λ e. omega arith))
+
+kept-last : (l : List ℕ) (b : List ℤ) → lastAnswer (take keptMost l) b .reply ≡ lastAnswer l b .reply
+unfolding lastAnswer
+kept-last l b = rw (kept-empty l, kept-answered l b)
 
 -- ---- the lines of an input that begins with a part
 
@@ -79,9 +84,6 @@ module _ (rest : List ℕ) where
 
 -- ---- what is printed on an input that begins behind a front
 
-unfoldable printedFrom : List ℕ → List ℤ → List ℕ → List ℕ
-printedFrom front b input = replyLines (entries b (lineCalls (linesFrom front input)))
-
 printed-on : (front : List ℕ) (b : List ℤ) (part rest : List ℕ) → length part ≤ lineLength part → printedFrom front b (part ++ rest) ≡ printedFrom (front ++ part) b rest
 unfolding printedFrom
 printed-on front b part rest h = rw (lines-go-on rest part front h)
@@ -92,11 +94,11 @@ printed-line : (front : List ℕ) (b : List ℤ) (part rest : List ℕ) → line
 unfolding printedFrom answerLine replyLines entries
 printed-line front b part rest h = rw (lines-end rest part front h)
 
-printed-last : (front : List ℕ) (b : List ℤ) → printedFrom front b [] ≡ lastLine front b
-unfolding printedFrom linesFrom replyLines entries answerLine
-printed-last front b = go (eqb (length front) 0)
+printed-last : (front : List ℕ) (b : List ℤ) → printedFrom front b [] ≡ lastAnswer front b .reply
+unfolding printedFrom linesFrom replyLines entries answerLine lastAnswer
+printed-last front b = go (noLine front)
   where
-    go : (t : Bool) → replyLines (entries b (lineCalls (cond t [] (front ∷ [])))) ≡ cond t [] (answerLine front b .reply)
+    go : (t : Bool) → replyLines (entries b (lineCalls (cond t [] (front ∷ [])))) ≡ cond t (answered b []) (answerLine front b) .reply
     go true = refl
     go false = append-nil _
 
@@ -142,19 +144,39 @@ follows (suc f) front b part h = follows-next front b part f (follows f) h
 
 -- ---- all parts
 
-parts-printed : (parts : List (List ℕ)) (front : List ℕ) (b : List ℤ) → byParts (take keptMost front) b parts ≡ printedFrom front b (joined parts)
-unfolding byParts joined
-parts-printed [] front b = rw (printed-last front b, kept-empty front, kept-answered front b)
-parts-printed (p ∷ ps) front b =
-    let o = follows (length p) front b p (omega arith) in
-    ap (λ x. steps (length p) (take keptMost front) b p .shown ++ byParts x (steps (length p) (take keptMost front) b p .block) ps) (o .kept)
-    ∙ ap (λ x. steps (length p) (take keptMost front) b p .shown ++ x) (parts-printed ps (o .left) (steps (length p) (take keptMost front) b p .block))
-    ∙ sym (o .prints (joined ps))
+module _ {front : List ℕ} {b : List ℤ} where
+  follows-more : {input : List ℕ} {s : Shown} → Follows front b input s → (part : List ℕ) → Follows front b (input ++ part) (overMore s part)
+  unfolding overPart
+  follows-more {input} {s} m part =
+      let o : Follows (m .left) (s .block) part (overPart (s .line) (s .block) part) = rw (m .kept) (follows (length part) (m .left) (s .block) part (omega arith)) in
+      record {
+        left = o .left;
+        kept = o .kept;
+        prints =
+            λ rest. ap (printedFrom front b) (append-assoc input part rest) ∙ m .prints (part ++ rest) ∙ ap (λ x. s .shown ++ x) (o .prints rest) ∙ sym (append-assoc (s .shown) _ _);
+      }
+
+  follows-parts : (parts : List (List ℕ)) {input : List ℕ} {s : Shown} → Follows front b input s → Follows front b (input ++ flatten parts) (overParts s parts)
+  unfolding overParts flatten
+  follows-parts [] {input} m = rw (append-nil input) m
+  follows-parts (p ∷ ps) {input} m = rw (← append-assoc input p (flatten ps)) (follows-parts ps (follows-more m p))
+
+from-start : (parts : List (List ℕ)) → Follows [] freshBlock (flatten parts) (overParts start parts)
+from-start parts = follows-parts parts {input = []} {s = start} (record { left = []; kept = refl; prints = λ rest. refl })
+
+-- what is printed so far is a front of what is printed in the end, however the input goes on
+pub printed-so-far : (parts : List (List ℕ)) (rest : List ℕ) → IsPrefix (overParts start parts .shown) (printed (flatten parts ++ rest))
+printed-so-far parts rest = let o = from-start parts in (printedFrom (o .left) (overParts start parts .block) rest, sym (o .prints rest))
 
 -- what is printed on parts is what the definition prints on the whole input
-pub printed-by-parts : (parts : List (List ℕ)) → byParts [] freshBlock parts ≡ printed (joined parts)
-unfolding printedFrom
-printed-by-parts parts = parts-printed parts [] freshBlock
+pub printed-by-parts : (parts : List (List ℕ)) → byParts parts ≡ printed (flatten parts)
+printed-by-parts parts =
+    let s = overParts start parts in
+    let o = from-start parts in
+    ap (λ x. s .shown ++ lastAnswer x (s .block) .reply) (o .kept)
+    ∙ ap (λ x. s .shown ++ x) (kept-last (o .left) (s .block) ∙ sym (printed-last (o .left) (s .block)))
+    ∙ sym (o .prints [])
+    ∙ ap printed (append-nil (flatten parts))
 
 -- demand 3, of the lines of every input
 pub input-demand : (input : List ℕ) → Demand (lineCalls (inputLines input))

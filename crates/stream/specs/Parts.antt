@@ -1,14 +1,15 @@
--- The same by parts, as reads give them: what one step takes of a part and what is kept for the next. `printed-by-parts` in proofs/Whole.antt says that it comes to
--- `printed` of the whole input, however the input is cut into parts.
+-- The same by parts, as reads give them: what one step takes of a part and what is kept for the next. proofs/Whole.antt says that it comes to `printed` of the whole
+-- input, however the input is cut into parts (`printed-by-parts`), and that what is printed so far is a front of that, however the input goes on (`printed-so-far`).
 use mathlib.Core.Bool.{cond}
 use mathlib.Core.List.{List, [], _∷_, _++_}
 use Prim.Native.Nat.{ℕ, zero, suc, _+_}
 use lib.Dec.{ltb, eqb}
 use lib.IntN.{ℤ}
 use lib.ListN.{length, take, drop}
+use Rattle.tables.specs.WellFormed.{freshBlock}
 use Rattle.frames.specs.Frames.{maxCharacters}
 use Rattle.service.specs.Answer.{Answer, answered, answer}
-use Rattle.stream.specs.Session.{lineFeed, lineCall}
+use Rattle.stream.specs.Session.{lineFeed, noLine, lineCall}
 
 -- how many bytes stand before the first line feed; all, where there is none
 unfoldable pub lineLength : List ℕ → ℕ
@@ -59,21 +60,30 @@ steps (suc f) line b part =
     record { line = s .line; block = s .block; shown = t .answer .reply ++ s .shown }
 
 -- a part is done after as many steps as it has bytes, since each takes one or more
-abbrev pub overPart : List ℕ → List ℤ → List ℕ → Shown
+unfoldable pub overPart : List ℕ → List ℤ → List ℕ → Shown
 overPart line b part = steps (length part) line b part
 
--- 'a last line without a line end is a line too, unless empty'
-abbrev pub lastLine : List ℕ → List ℤ → List ℕ
-lastLine line b = cond (eqb (length line) 0) [] (answerLine line b .reply)
+-- before the first byte: 'starts fresh'
+abbrev pub start : Shown
+start = record { line = []; block = freshBlock; shown = [] }
+
+-- the steps over one part more, from where the steps before ended
+abbrev pub overMore : Shown → List ℕ → Shown
+overMore s part =
+    let t = overPart (s .line) (s .block) part in
+    record { line = t .line; block = t .block; shown = s .shown ++ t .shown }
+
+-- the steps over parts, one after the other
+unfoldable pub overParts : Shown → List (List ℕ) → Shown
+overParts s [] = s
+overParts s (p ∷ ps) = overParts (overMore s p) ps
+
+-- the end of the input: 'a last line without a line end is a line too, unless empty'
+unfoldable pub lastAnswer : List ℕ → List ℤ → Answer
+lastAnswer line b = cond (noLine line) (answered b []) (answerLine line b)
 
 -- all that is printed on an input that comes in parts
-unfoldable pub byParts : List ℕ → List ℤ → List (List ℕ) → List ℕ
-byParts line b [] = lastLine line b
-byParts line b (p ∷ ps) =
-    let s = overPart line b p in
-    s .shown ++ byParts (s .line) (s .block) ps
-
--- the input that comes in these parts
-unfoldable pub joined : List (List ℕ) → List ℕ
-joined [] = []
-joined (p ∷ ps) = p ++ joined ps
+abbrev pub byParts : List (List ℕ) → List ℕ
+byParts parts =
+    let s = overParts start parts in
+    s .shown ++ lastAnswer (s .line) (s .block) .reply

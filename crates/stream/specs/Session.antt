@@ -1,9 +1,10 @@
 -- Document 01, 'Replies': 'A program reads standard input, starts fresh, and prints a reply line for each input line; a last line without a line end is a line too,
 -- unless empty.' From the bytes of the whole input to the bytes of the whole output.
-use mathlib.Core.Bool.{cond}
+use mathlib.Core.Bool.{Bool, cond}
 use mathlib.Core.List.{List, [], _∷_, _++_, map}
 use Prim.Native.Nat.{ℕ}
 use lib.Dec.{eqb}
+use lib.IntN.{ℤ}
 use lib.ListN.{length, replicate}
 use Rattle.tables.specs.WellFormed.{freshBlock}
 use Rattle.replies.specs.Wrote.{minBuffer}
@@ -21,9 +22,13 @@ endedBy c front = cond (eqb c lineFeed) (front ∷ []) []
 abbrev pub frontAfter : ℕ → List ℕ → List ℕ
 frontAfter c front = cond (eqb c lineFeed) [] (front ++ c ∷ [])
 
+-- 'unless empty': where the input ends behind `front`, there is no last line
+abbrev pub noLine : List ℕ → Bool
+noLine front = eqb (length front) 0
+
 -- the lines of an input that begins behind `front`; 'a last line without a line end is a line too, unless empty'
 unfoldable pub linesFrom : List ℕ → List ℕ → List (List ℕ)
-linesFrom front [] = cond (eqb (length front) 0) [] (front ∷ [])
+linesFrom front [] = cond (noLine front) [] (front ∷ [])
 linesFrom front (c ∷ rest) = endedBy c front ++ linesFrom (frontAfter c front) rest
 
 -- the lines of a whole input
@@ -42,6 +47,10 @@ unfoldable pub replyLines : List Entry → List ℕ
 replyLines [] = []
 replyLines (e ∷ es) = (e .reply ++ lineFeed ∷ []) ++ replyLines es
 
+-- all that is printed on an input that begins behind `front`, from block b on
+unfoldable pub printedFrom : List ℕ → List ℤ → List ℕ → List ℕ
+printedFrom front b input = replyLines (entries b (lineCalls (linesFrom front input)))
+
 -- 'starts fresh': all that is printed on an input. What demand 3 claims of lists of calls it claims of these.
 abbrev pub printed : List ℕ → List ℕ
-printed input = replyLines (entries freshBlock (lineCalls (inputLines input)))
+printed input = printedFrom [] freshBlock input

@@ -4,7 +4,7 @@ ghost use Prim.Native.Nat.{_+_, _-_, _≤_, min};
 ghost use lib.ListN.{length, take};
 ghost use lib.Seq.{paste};
 ghost use Rattle.service.specs.Wrote.{Answers};
-ghost use Rattle.stream.specs.Parts.{lineLength, keptMost, answerLine, nextLine};
+ghost use Rattle.stream.specs.Parts.{lineLength, keptMost, answerLine, nextLine, lastAnswer};
 ghost use Rattle.stream.specs.Steps.{Steps};
 use frames::frame::Frame;
 use service::entry;
@@ -61,13 +61,24 @@ fn keep(part: &[u8], n: usize, line: &mut [u8], kept: usize) -> usize
 }
 
 // Answers the line of `kept` characters, and puts the reply and a line feed in front of `reply`. Returns how many bytes they are.
-pub fn reply_line(line: &[u8], kept: usize, block: &mut [i64], reply: &mut [u8; REPLY]) -> usize
+fn reply_line(line: &[u8], kept: usize, block: &mut [i64], reply: &mut [u8; REPLY]) -> usize
     requires { ⌜ kept ≤ length (now line) ⌝ }
     ensures { λ r. ⌜ Answers (answerLine (take kept (now (line .entry))) (now (block .entry))) (now (reply .entry)) (now (block .exit)) (now (reply .exit)) r ⌝ }
 {
     let n = entry::respond(&line[..kept], block, reply);
     reply[n] = LINE_FEED;
     n + 1
+}
+
+// Answers a last line without a line end, of `kept` characters, as `reply_line` does, unless it is empty.
+pub fn last_line(line: &[u8], kept: usize, block: &mut [i64], reply: &mut [u8; REPLY]) -> usize
+    requires { ⌜ kept ≤ length (now line) ⌝ }
+    ensures { λ r. ⌜ Answers (lastAnswer (take kept (now (line .entry))) (now (block .entry))) (now (reply .entry)) (now (block .exit)) (now (reply .exit)) r ⌝ }
+{
+    if kept == 0 {
+        return 0;
+    }
+    reply_line(line, kept, block, reply)
 }
 
 // Takes a part to its first line feed, or to its end, behind the `kept` characters of a line.

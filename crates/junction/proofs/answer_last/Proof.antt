@@ -1,34 +1,32 @@
--- The reply and its line feed fit the buffer.
+-- What is printed is the definition's answer at the end of the input, and it fits the buffer.
 use borrow.Author.Needs.{needs}
+use native.Mathlib.Omega.{arith}
 use Rattle.stream.proofs.Steps.{written-fits, written-length}
+use Rattle.stream.proofs.Over.{end-prints}
 use Rattle.junction.proofs.answer_last.Statement.{statement}
 use Rattle.junction.proofs.answer_last.Tie as tie
 
-returns : tie.Need-returns
-returns c = search needs
-
-reply-line-requires : tie.Need-reply-line-requires
-reply-line-requires c κs = search needs
+last-line-requires : tie.Need-last-line-requires
+last-line-requires c κs = search needs
 
 array-share-prefix-reply : tie.Need-array-share-prefix-reply
-array-share-prefix-reply c = written-fits (c .reply-line .ensures)
+array-share-prefix-reply c = omega (arith, written-fits (c .before .last-line .ensures))
 
-slice-aggregate-write-all : tie.Need-slice-aggregate-write-all
-slice-aggregate-write-all c = written-length (c .before .reply-line .ensures)
+slice-aggregate-print-end : tie.Need-slice-aggregate-print-end
+slice-aggregate-print-end c = omega (arith, written-length (c .before .before .last-line .ensures))
 
-write-all-requires : tie.Need-write-all-requires
-write-all-requires c κs = search needs
+print-end-requires : tie.Need-print-end-requires
+print-end-requires c κs = end-prints (c .before .before .before .before .before .before .pre) (c .before .before .last-line .ensures)
 
-returns-2 : tie.Need-returns-2
-returns-2 c = search needs
+returns : tie.Need-returns
+returns c = search needs
 
 pub answer-last-spec : {M : Type 1} → statement M
 answer-last-spec =
     tie.close
     (tie.spec
-    returns
-    reply-line-requires
+    last-line-requires
     array-share-prefix-reply
-    slice-aggregate-write-all
-    write-all-requires
-    returns-2)
+    slice-aggregate-print-end
+    print-end-requires
+    returns)

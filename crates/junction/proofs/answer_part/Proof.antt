@@ -1,4 +1,4 @@
--- Each turn is one step of the definition, from where the step before ended.
+-- Each turn is one step of the definition, from where the step before ended, and prints what that step prints.
 use borrow.Author.Needs.{needs}
 use mathlib.Core.Path.{_≡_}
 use Prim.Native.Nat.{ℕ, _-_}
@@ -6,7 +6,7 @@ use native.Mathlib.Omega.{arith}
 use lib.ListN.{take}
 use Rattle.stream.specs.Parts.{overPart}
 use Rattle.stream.proofs.Steps.{written-fits, written-length}
-use Rattle.stream.proofs.Over.{Stands, stands-first, used-more, used-inside, stands-next, stands-last}
+use Rattle.stream.proofs.Over.{step-prints, Stands, stands-first, used-more, used-inside, stands-next, stands-last}
 use Rattle.junction.proofs.answer_part.Statement.{statement}
 use Rattle.junction.proofs.answer_part.Tie as tie
 
@@ -21,14 +21,14 @@ loop-holds c =
     let a = c .before .args in
     stands-first (take (a .n) (a .bytes .now)) (a .line .now) (a .block .now) (a .kept) (c .before .pre .1)
 
-sub-next-line : tie.Need-sub-next-line Inv-loop μ-loop
-sub-next-line c = search needs
+sub-rest : tie.Need-sub-rest Inv-loop μ-loop
+sub-rest c = search needs
 
-part-next-line-start : tie.Need-part-next-line-start Inv-loop μ-loop
-part-next-line-start c = search needs
+part-rest-start : tie.Need-part-rest-start Inv-loop μ-loop
+part-rest-start c = search needs
 
-part-next-line-end : tie.Need-part-next-line-end Inv-loop μ-loop
-part-next-line-end c = search needs
+part-rest-end : tie.Need-part-rest-end Inv-loop μ-loop
+part-rest-end c = search needs
 
 next-line-requires : tie.Need-next-line-requires Inv-loop μ-loop
 next-line-requires c κs = search needs
@@ -40,40 +40,39 @@ add-at c =
     record { fits = omega (arith, used-inside (a .bytes .now) (a .n) (l .before .before .pre .0) (l .loop .inv) (search needs) (c .before .next-line .ensures)) }
 
 array-share-prefix-reply : tie.Need-array-share-prefix-reply Inv-loop μ-loop
-array-share-prefix-reply c = written-fits (c .before .next-line .ensures .printed)
+array-share-prefix-reply c = omega (arith, written-fits (c .before .before .next-line .ensures .printed))
 
-slice-aggregate-write-all : tie.Need-slice-aggregate-write-all Inv-loop μ-loop
-slice-aggregate-write-all c = written-length (c .before .before .next-line .ensures .printed)
+slice-aggregate-print-step : tie.Need-slice-aggregate-print-step Inv-loop μ-loop
+slice-aggregate-print-step c = omega (arith, written-length (c .before .before .before .next-line .ensures .printed))
 
-write-all-requires : tie.Need-write-all-requires Inv-loop μ-loop
-write-all-requires c κs = search needs
+print-step-requires : tie.Need-print-step-requires Inv-loop μ-loop
+print-step-requires c κs =
+    let l = c .before .before .before .before .before .before .before .before .before in
+    step-prints (l .loop .inv .after) _ (c .before .before .before .next-line .ensures)
 
 returns : tie.Need-returns Inv-loop μ-loop
 returns c =
-    let l = c .before .before .before .before .before .before .before .before .before .before in
-    let a = l .before .before .args in
-    let t = c .before .before .before .before .next-line .ensures in
-    (stands-next (a .bytes .now) (a .n) (l .before .before .pre .0) (l .loop .inv) (search needs) t .kept, λ e. let z : _≡_ {A = ℕ} 0 1 = cc in absurd (omega arith))
+    λ e. let z : _≡_ {A = ℕ} 0 1 = cc in absurd (omega arith)
 
 loop-less : tie.Need-loop-less Inv-loop μ-loop
 loop-less c =
-    let l = c .before .before .before .before .before .before .before .before .before .before in
+    let l = c .before .before .before .before .before .before .before .before .before .before .before in
     let a = l .before .before .args in
-    let t = c .before .before .before .before .next-line .ensures in
+    let t = c .before .before .before .before .before .next-line .ensures in
     omega (arith, used-more (a .bytes .now) (a .n) (l .before .before .pre .0) (l .loop .inv) (search needs) t, used-inside (a .bytes .now) (a .n) (l .before .before .pre .0) (l .loop .inv) (search needs) t)
 
 loop-again : tie.Need-loop-again Inv-loop μ-loop
 loop-again c =
-    let l = c .before .before .before .before .before .before .before .before .before .before in
+    let l = c .before .before .before .before .before .before .before .before .before .before .before in
     let a = l .before .before .args in
-    let t = c .before .before .before .before .next-line .ensures in
+    let t = c .before .before .before .before .before .next-line .ensures in
     stands-next (a .bytes .now) (a .n) (l .before .before .pre .0) (l .loop .inv) (search needs) t
 
 returns-2 : tie.Need-returns-2 Inv-loop μ-loop
 returns-2 c =
     let l = c .before in
     let a = l .before .before .args in
-    (l .loop .inv .kept, λ e. stands-last (a .bytes .now) (a .n) (l .before .before .pre .0) (l .loop .inv) (search needs))
+    λ e. stands-last (a .bytes .now) (a .n) (l .before .before .pre .0) (l .loop .inv) (search needs)
 
 pub answer-part-spec : {M : Type 1} → statement M
 answer-part-spec =
@@ -82,14 +81,14 @@ answer-part-spec =
     Inv-loop
     μ-loop
     loop-holds
-    sub-next-line
-    part-next-line-start
-    part-next-line-end
+    sub-rest
+    part-rest-start
+    part-rest-end
     next-line-requires
     add-at
     array-share-prefix-reply
-    slice-aggregate-write-all
-    write-all-requires
+    slice-aggregate-print-step
+    print-step-requires
     returns
     loop-less
     loop-again
