@@ -5,7 +5,7 @@ use mathlib.Core.List.{List, [], _∷_}
 use Prim.Native.Nat.{ℕ}
 use lib.ListN.{take}
 use Rattle.tables.specs.WellFormed.{freshBlock}
-use Rattle.claims.specs.Ledger.{entries}
+use Rattle.service.specs.Calls.{exchanges}
 use Rattle.cases.specs.Calls.{Row, call, row, declined, Right}
 use Rattle.cases.specs.Computed.{computed}
 use Rattle.cases.specs.Studies.{fresh, jLine, jWith, j}
@@ -52,7 +52,7 @@ pub table-right : found table ≡ said table
 unfolding computed planCosts told jLine jTable unequal.table after said found table
 table-right = refl
 
--- ---- the rows are those of calls, so the same is right of the calls' own entries, after the whole of each session
+-- ---- the rows are those of calls, so the same is right of the calls' own lines and replies, after the whole of each session
 
 jTable-session : Session freshBlock jTable
 unfolding gets handed call row declined fresh jTable
@@ -62,10 +62,10 @@ jTable-right : Right jTable
 unfolding computed fresh jLine jWith j jTable
 jTable-right = right-by jTable refl
 
-pub j-costs : planCosts (entries freshBlock (calls jTable)) ≡ 3 ∷ 2 ∷ 3 ∷ 2 ∷ []
+pub j-costs : planCosts (exchanges freshBlock (calls jTable)) ≡ 3 ∷ 2 ∷ 3 ∷ 2 ∷ []
 unfolding computed planCosts told jLine jTable
 j-costs = rw (session-told freshBlock jTable jTable-session jTable-right) refl
 
-pub unequal-costs : planCosts (entries freshBlock (calls unequal.table)) ≡ 9 ∷ 9 ∷ 10 ∷ 9 ∷ 12 ∷ 9 ∷ []
+pub unequal-costs : planCosts (exchanges freshBlock (calls unequal.table)) ≡ 9 ∷ 9 ∷ 10 ∷ 9 ∷ 12 ∷ 9 ∷ []
 unfolding computed planCosts told unequal.table
 unequal-costs = rw (session-told freshBlock unequal.table unequal.table-session unequal.table-right) refl

@@ -5,7 +5,7 @@ use Prim.Native.Nat.{ℕ}
 use lib.IntN.{ℤ}
 use lib.ListN.{getD, drop}
 use Rattle.service.specs.Answer.{answer}
-use Rattle.claims.specs.Ledger.{entries}
+use Rattle.service.specs.Calls.{exchanges}
 use Rattle.cases.specs.Calls.{Block, Row, Left, leftBy, left, Right, said}
 use Rattle.cases.specs.Computed.{answerOn, computed}
 use Rattle.cases.specs.Sessions.{gets, handed, Session, calls, told}
@@ -26,8 +26,8 @@ right-by rs e = left-computed rs ∙ e
 
 -- ---- the ledger of a session's calls is the one that its rows tell
 
-pub session-told : (b : List ℤ) (rs : List Row) → Session b rs → Right rs → entries b (calls rs) ≡ told rs
-unfolding gets handed calls told entries left leftBy said
+pub session-told : (b : List ℤ) (rs : List Row) → Session b rs → Right rs → exchanges b (calls rs) ≡ told rs
+unfolding gets handed calls told exchanges left leftBy said
 session-told b [] s e = refl
 session-told b (r ∷ rs) s e =
     let on = ap (λ (l : List (List ℤ)). getD l 0 []) s in

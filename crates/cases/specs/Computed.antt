@@ -22,12 +22,13 @@ use Rattle.frames.specs.Fields.{field, signed, fieldDigits}
 use Rattle.frames.specs.Frames.{allDigits, framed}
 use Rattle.frames.specs.Runs.{listFrom}
 use Rattle.lines.specs.declared.refusal.Refusal.the-variants.{Malformed}
+use Rattle.lines.specs.Kinds.{newKind}
 use Rattle.lines.specs.Layout.{pairAt}
 use Rattle.lines.specs.Numbers.{entriesOf, numbersOf}
 use Rattle.lines.specs.Verdicts.{firstOf, fieldVerdict, pairOrdered, pairVerdict, headVerdict, restVerdict, loadVerdict}
 use Rattle.reader.specs.Reading.{addVerdict, shiftVerdict, certifyVerdict, searchVerdict, studyLine, kindLine, lineOf}
-use Rattle.search.specs.Walk.{partialTotal, oneTry, triedFrom, openedTrain, searched}
-use Rattle.rows.specs.Added as adding
+use Rattle.search.specs.Walk.{partialTotal, oneTry, triedFrom, openedTrain, walked, searched}
+use Rattle.search.specs.Walk as walk
 use Rattle.search.specs.Answer.{searchAnswer}
 use Rattle.replies.specs.Replies.{refusalReply, boundReply, certifyReply, planDigits, searchReply}
 use Rattle.replies.specs.Wrote.{minBuffer}
@@ -50,9 +51,9 @@ unfolding text zeros marks places rows grids laid held call row declined decline
     moveRun pairShifted shifted runLeast runTightened pairTightened tightened
     trainBalanced rowBalanced columnBalanced pairBalanced balanced overChoices overPairs weighted
     digit digitOf byteAt field signed fieldDigits allDigits framed listFrom
-    pairAt entriesOf numbersOf firstOf fieldVerdict pairOrdered pairVerdict headVerdict restVerdict loadVerdict
+    newKind pairAt entriesOf numbersOf firstOf fieldVerdict pairOrdered pairVerdict headVerdict restVerdict loadVerdict
     addVerdict shiftVerdict certifyVerdict searchVerdict studyLine kindLine lineOf
-    adding.added partialTotal oneTry triedFrom openedTrain searched searchAnswer
+    walk.added partialTotal oneTry triedFrom openedTrain walked searched searchAnswer
     refusalReply boundReply certifyReply planDigits searchReply
     requested
 computed [] = []

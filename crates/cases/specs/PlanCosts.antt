@@ -3,7 +3,8 @@ use mathlib.Core.List.{List, [], _∷_, _++_}
 use Prim.Native.Nat.{ℕ, zero, suc, _+_}
 use Rattle.tables.specs.Numbers.{nth}
 use Rattle.tables.specs.Plans.{choiceTotal, pairTotal, total}
-use Rattle.claims.specs.Ledger.{Entry, Ledger, accepted, fed, ledgerOf, emptyLedger, costOf}
+use Rattle.service.specs.Calls.{Exchange}
+use Rattle.claims.specs.Ledger.{Ledger, accepted, fed, ledgerOf, emptyLedger, costOf}
 
 -- a first choice before each plan of the other trains
 unfoldable pub before : ℕ → List (List ℕ) → List (List ℕ)
@@ -26,7 +27,7 @@ costsOf g [] = []
 costsOf g (p ∷ ps) = costOf g (nth p) ∷ costsOf g ps
 
 -- the costs of all plans by the ledger that is fed these lines and replies. Whoever opens this name opens every definition on its way
-unfoldable pub planCosts : List Entry → List ℕ
+unfoldable pub planCosts : List Exchange → List ℕ
 unfolding before choicesFrom plansFrom costsOf accepted fed ledgerOf choiceTotal pairTotal total
 planCosts es =
     let g = ledgerOf emptyLedger es in

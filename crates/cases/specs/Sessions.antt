@@ -2,7 +2,7 @@
 use mathlib.Core.Path.{_≡_}
 use mathlib.Core.List.{List, [], _∷_}
 use lib.IntN.{ℤ}
-use Rattle.claims.specs.Ledger.{Call, Entry}
+use Rattle.service.specs.Calls.{Call, Exchange, exchange}
 use Rattle.cases.specs.Written.{marks}
 use Rattle.cases.specs.Calls.{Row}
 
@@ -26,6 +26,6 @@ calls [] = []
 calls (r ∷ rs) = record { line = r .line; buffer = marks (r .room) } ∷ calls rs
 
 -- their lines with their replies: what the ledger is fed
-unfoldable pub told : List Row → List Entry
+unfoldable pub told : List Row → List Exchange
 told [] = []
-told (r ∷ rs) = record { line = r .line; reply = r .reply } ∷ told rs
+told (r ∷ rs) = exchange (r .line) (r .reply) ∷ told rs

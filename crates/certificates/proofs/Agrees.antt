@@ -9,9 +9,9 @@ use Rattle.tables.specs.Plans.{Shape}
 use Rattle.tables.proofs.Range.{both-true, all-true}
 use Rattle.certificates.specs.Certify.{Weights, trainBalanced, rowBalanced, columnBalanced, pairBalanced, balanced}
 
--- each train's weights sum to the whole, each row and each column of a pair's to the choice's weight
+-- each train's weights sum to W, each row and each column of a pair's to the choice's weight
 pub record Agrees (s : Shape) (w : Weights) : Type 0 where
-  pub trains : (i : ℕ) → i < s .trains → sum (s .size i) (λ a. w .choice i a) ≡ w .whole
+  pub trains : (i : ℕ) → i < s .trains → sum (s .size i) (λ a. w .choice i a) ≡ w .fullWeight
   pub rows : (k a : ℕ) → k < s .pairs → a < s .size (s .first k) → sum (s .size (s .second k)) (λ c. w .pair k a c) ≡ w .choice (s .first k) a
   pub columns : (k c : ℕ) → k < s .pairs → c < s .size (s .second k) → sum (s .size (s .first k)) (λ a. w .pair k a c) ≡ w .choice (s .second k) c
 

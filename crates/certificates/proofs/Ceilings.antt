@@ -9,7 +9,7 @@ use lib.IntN.{ℤ}
 use Rattle.tables.specs.Block.{constant}
 use Rattle.tables.specs.WellFormed.{Study}
 use Rattle.tables.specs.Plans.{Shape, IsPlan, total, shapeOf, heldCosts}
-use Rattle.tables.specs.Ranges.{maxWhole}
+use Rattle.tables.specs.Ranges.{maxFullWeight}
 use Rattle.tables.proofs.Range.{both-true}
 use Rattle.tables.proofs.Plans.{study-shaped}
 use Rattle.certificates.specs.declared.certify.Certificate.the-variants.{Unbalanced, Balanced}
@@ -19,20 +19,20 @@ use Rattle.certificates.specs.Runs.{trainsMatch, pairsMatch}
 use Rattle.certificates.specs.Rival.{Fraction, plus, sumOf, Rival, rivalTotal, IsRival, ConstantAtMost}
 use Rattle.certificates.proofs.Agrees.{Agrees, balanced-agrees}
 use Rattle.certificates.proofs.Fractions.{every-rival}
-use Rattle.certificates.proofs.Runs.{balanced-runs, weighted-runs, light-runs, floor-most, parts-most}
+use Rattle.certificates.proofs.Runs.{balanced-runs, weighted-runs, floor-most, parts-most}
 
 -- what the answer `Balanced c` says
 pub record Certified (b : List ℤ) (w : Weights) (c : Ceiling) : Type 0 where
   pub right : balanced (shapeOf b) w ≡ true
   pub agrees : Agrees (shapeOf b) w
   pub shown : c .weighted ≡ weighted (shapeOf b) w (heldCosts b)
-  pub reached : c .reached ≡ eqb (weighted (shapeOf b) w (heldCosts b)) (w .whole * constant b)
+  pub reached : c .reached ≡ eqb (weighted (shapeOf b) w (heldCosts b)) (w .fullWeight * constant b)
 
 pub certify-ceiling : (b : List ℤ) (w : Weights) {c : Ceiling} → certificate b w ≡ Balanced c → Certified b w c
 certify-ceiling b w {c} e = go (balanced (shapeOf b) w) refl e
   where
     shows : Ceiling
-    shows = record { reached = eqb (ceiling b w) (w .whole * constant b); weighted = ceiling b w }
+    shows = record { reached = eqb (ceiling b w) (w .fullWeight * constant b); weighted = ceiling b w }
 
     go : (t : Bool) → balanced (shapeOf b) w ≡ t → cond t (Balanced shows) Unbalanced ≡ Balanced c → Certified b w c
     go true p e =
@@ -46,15 +46,15 @@ certify-ceiling b w {c} e = go (balanced (shapeOf b) w) refl e
     go false p e = let z : _≡_ {A = ℕ} 0 1 = cc in absurd (omega arith)
 
 -- E is far below what 64 bits hold
-pub certify-fits : {b : List ℤ} (whole : ℕ) (l : List ℕ) {c : Ceiling} → Study b → whole ≤ maxWhole → certificate b (weightsOf b whole l) ≡ Balanced c → c .weighted < 2 ^ 63
-certify-fits {b} whole l s h e =
-    let k = certify-ceiling b (weightsOf b whole l) e in
-    let f = both-true (trainsMatch b l whole) (pairsMatch b l) (sym (balanced-runs b whole l) ∙ k .right) in
-    omega (arith, k .shown, weighted-runs b whole l, floor-most s h, parts-most s (light-runs s h (f .0) (f .1)))
+pub certify-fits : {b : List ℤ} (fullWeight : ℕ) (l : List ℕ) {c : Ceiling} → Study b → fullWeight ≤ maxFullWeight → certificate b (weightsOf b fullWeight l) ≡ Balanced c → c .weighted < 2 ^ 63
+certify-fits {b} fullWeight l s h e =
+    let k = certify-ceiling b (weightsOf b fullWeight l) e in
+    let f = both-true (trainsMatch b l fullWeight) (pairsMatch b l) (sym (balanced-runs b fullWeight l) ∙ k .right) in
+    omega (arith, k .shown, weighted-runs b fullWeight l, floor-most s h, parts-most l s h (f .0) (f .1))
 
 -- 'W × the constant of every rival is at most E', of a rival that gives every plan the total that the held costs give it
 pub certify-rival : {b : List ℤ} (w : Weights) {c : Ceiling} → Study b → certificate b w ≡ Balanced c
-    → (r : Rival) → IsRival (shapeOf b) (total (shapeOf b) (heldCosts b)) r → ConstantAtMost (w .whole) (c .weighted) r
+    → (r : Rival) → IsRival (shapeOf b) (total (shapeOf b) (heldCosts b)) r → ConstantAtMost (w .fullWeight) (c .weighted) r
 certify-rival {b} w s e r is =
     let k = certify-ceiling b w e in
     rw (k .shown) (every-rival (shapeOf b) (study-shaped s) w (k .agrees) (heldCosts b) r is)

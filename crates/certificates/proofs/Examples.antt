@@ -29,7 +29,7 @@ tightened = set (set shape constantPlace (pos 2)) (heldChoicePlace 1 0) (pos 1)
 
 pub record Case : Type 0 where
   pub block : List ℤ
-  pub whole : ℕ
+  pub fullWeight : ℕ
   pub weights : List ℕ
   -- whether the sums agree, whether the ceiling is reached, and E
   pub agree : Bool
@@ -47,20 +47,20 @@ shows (Balanced d) c = c .agree && sameBool (d .reached) (c .reached) && eqb (d 
 
 pub right : List Case → Bool
 right [] = true
-right (c ∷ cs) = shows (certificate (c .block) (weightsOf (c .block) (c .whole) (c .weights))) c && right cs
+right (c ∷ cs) = shows (certificate (c .block) (weightsOf (c .block) (c .fullWeight) (c .weights))) c && right cs
 
 pub table : List Case
 table =
     -- '85000000000000000002000001': E = 2, not reached
-    record { block = loaded; whole = 1; weights = 1 ∷ 0 ∷ 0 ∷ 1 ∷ 0 ∷ 1 ∷ 0 ∷ 0 ∷ []; agree = true; reached = false; ceiling = 2 }
+    record { block = loaded; fullWeight = 1; weights = 1 ∷ 0 ∷ 0 ∷ 1 ∷ 0 ∷ 1 ∷ 0 ∷ 0 ∷ []; agree = true; reached = false; ceiling = 2 }
     -- '85010000000000000002000001': E = 2 = W × c0
-    ∷ record { block = tightened; whole = 1; weights = 1 ∷ 0 ∷ 0 ∷ 1 ∷ 0 ∷ 1 ∷ 0 ∷ 0 ∷ []; agree = true; reached = true; ceiling = 2 }
+    ∷ record { block = tightened; fullWeight = 1; weights = 1 ∷ 0 ∷ 0 ∷ 1 ∷ 0 ∷ 1 ∷ 0 ∷ 0 ∷ []; agree = true; reached = true; ceiling = 2 }
     -- refusal 14: all weights 0, with W = 1
-    ∷ record { block = loaded; whole = 1; weights = 0 ∷ 0 ∷ 0 ∷ 0 ∷ 0 ∷ 0 ∷ 0 ∷ 0 ∷ []; agree = false; reached = false; ceiling = 0 }
+    ∷ record { block = loaded; fullWeight = 1; weights = 0 ∷ 0 ∷ 0 ∷ 0 ∷ 0 ∷ 0 ∷ 0 ∷ 0 ∷ []; agree = false; reached = false; ceiling = 0 }
     -- rows that agree and columns that do not
-    ∷ record { block = loaded; whole = 1; weights = 1 ∷ 0 ∷ 0 ∷ 1 ∷ 1 ∷ 0 ∷ 0 ∷ 0 ∷ []; agree = false; reached = false; ceiling = 0 }
+    ∷ record { block = loaded; fullWeight = 1; weights = 1 ∷ 0 ∷ 0 ∷ 1 ∷ 1 ∷ 0 ∷ 0 ∷ 0 ∷ []; agree = false; reached = false; ceiling = 0 }
     -- columns that agree and rows that do not
-    ∷ record { block = loaded; whole = 1; weights = 1 ∷ 0 ∷ 0 ∷ 1 ∷ 0 ∷ 0 ∷ 0 ∷ 1 ∷ []; agree = false; reached = false; ceiling = 0 }
+    ∷ record { block = loaded; fullWeight = 1; weights = 1 ∷ 0 ∷ 0 ∷ 1 ∷ 0 ∷ 0 ∷ 0 ∷ 1 ∷ []; agree = false; reached = false; ceiling = 0 }
     ∷ []
 
 pub table-right : T (right table)

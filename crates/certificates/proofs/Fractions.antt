@@ -8,7 +8,7 @@ use Rattle.tables.specs.Sum.{sum}
 use Rattle.tables.specs.Plans.{Shape, Costs, IsPlan, choiceTotal, pairTotal, total}
 use Rattle.tables.proofs.Plans.{Shaped, plan-first, plan-second}
 use Rattle.certificates.specs.Certify.{Weights, weighted}
-use Rattle.certificates.specs.Rival.{Fraction, whole, plus, times, sumOf, Same, AtMost, Rival, rivalTotal, IsRival, ConstantAtMost}
+use Rattle.certificates.specs.Rival.{Fraction, asFraction, plus, times, sumOf, Same, AtMost, Rival, rivalTotal, IsRival, ConstantAtMost}
 use Rattle.certificates.proofs.Agrees.{Agrees}
 use Rattle.certificates.proofs.Rivals.{rival-bound}
 
@@ -19,9 +19,9 @@ Over : ℕ → Fraction → ℕ → Type 0
 Over d f u = u * f .den ≡ f .num * d
 
 module _ (d : ℕ) where
-  over-whole : (n : ℕ) → Over d (whole n) (n * d)
-  unfolding Over whole
-  over-whole n = mul-one (n * d)
+  over-number : (n : ℕ) → Over d (asFraction n) (n * d)
+  unfolding Over asFraction
+  over-number n = mul-one (n * d)
 
   over-plus : (f g : Fraction) (u v : ℕ) → Over d f u → Over d g v → Over d (plus f g) (u + v)
   unfolding Over plus
@@ -36,7 +36,7 @@ module _ (d : ℕ) where
   over-times n f u p = mul-assoc n u (f .den) ∙ ap (λ (k : ℕ). n * k) p ∙ sym (mul-assoc n (f .num) d)
 
   over-sum : (n : ℕ) (f : ℕ → Fraction) (u : ℕ → ℕ) → ((i : ℕ) → i < n → Over d (f i) (u i)) → Over d (sumOf n f) (sum n u)
-  unfolding sumOf sum Over whole
+  unfolding sumOf sum Over asFraction
   over-sum zero f u h = sym (zero-mul d)
   over-sum (suc n) f u h = over-plus (sumOf n f) (f n) (sum n u) (u n) (over-sum n f u (λ i l. h i (omega arith))) (h n (omega arith))
 
@@ -146,7 +146,7 @@ module _ (s : Shape) (r : Rival) where
       (over-plus common (r .gain) _ _ _ gain-over (over-sum common (s .trains) _ _ (λ i l. choice-over i (x i) l (p i l))))
       (over-sum common (s .pairs) _ _ (λ k l. pair-over k (x (s .first k)) (x (s .second k)) l (plan-first s sh x p k l) (plan-second s sh x p k l)))
 
--- ---- of every rival: the whole times its constant is at most E
+-- ---- of every rival: W times its constant is at most E
 
 module _ (s : Shape) (sh : Shaped s) (w : Weights) (ag : Agrees s w) (t : Costs) (r : Rival) (is : IsRival s (total s t) r) where
   -- the rival's totals, over the common denominator
@@ -155,14 +155,14 @@ module _ (s : Shape) (sh : Shaped s) (w : Weights) (ag : Agrees s w) (t : Costs)
   totals x p =
       let d = common s r in
       ap (λ (v : ℕ). v + up d (r .loss)) (mul-comm d (total s t x))
-      ∙ sym (over-same d _ _ _ _ (total-over s r sh x p) (over-plus d _ _ _ _ (over-whole d (total s t x)) (loss-over s r)) (is x p))
+      ∙ sym (over-same d _ _ _ _ (total-over s r sh x p) (over-plus d _ _ _ _ (over-number d (total s t x)) (loss-over s r)) (is x p))
 
-  pub every-rival : ConstantAtMost (w .whole) (weighted s w t) r
+  pub every-rival : ConstantAtMost (w .fullWeight) (weighted s w t) r
   unfolding ConstantAtMost numerators
   every-rival =
       let d = common s r in
       over-at-most d _ _ _ _
-      (over-times d (w .whole) (r .gain) _ (gain-over s r))
-      (over-plus d _ _ _ _ (over-whole d (weighted s w t)) (over-times d (w .whole) (r .loss) _ (loss-over s r)))
+      (over-times d (w .fullWeight) (r .gain) _ (gain-over s r))
+      (over-plus d _ _ _ _ (over-number d (weighted s w t)) (over-times d (w .fullWeight) (r .loss) _ (loss-over s r)))
       (common-above s r)
       (omega (arith, mul-comm d (weighted s w t), rival-bound s sh w ag d (up d (r .loss)) t (numerators s r) totals))

@@ -177,12 +177,12 @@ module _ (s : Shape) (w : Weights) where
 
   module _ (ag : Agrees s w) where
     -- one train's weights, over what does not depend on the choice
-    train-const : (i c : ℕ) → i < s .trains → sum (s .size i) (λ a. w .choice i a * c) ≡ w .whole * c
+    train-const : (i c : ℕ) → i < s .trains → sum (s .size i) (λ a. w .choice i a * c) ≡ w .fullWeight * c
     train-const i c h = sum-scale-right (s .size i) c (λ a. w .choice i a) ∙ ap (λ (v : ℕ). v * c) (ag .trains i h)
 
-    choices-const : (f : ℕ → ℕ) → overChoices s w (λ i a. f i) ≡ w .whole * sum (s .trains) f
+    choices-const : (f : ℕ → ℕ) → overChoices s w (λ i a. f i) ≡ w .fullWeight * sum (s .trains) f
     unfolding overChoices
-    choices-const f = sum-cong (s .trains) _ _ (λ i h. train-const i (f i) h) ∙ sum-scale (s .trains) (w .whole) f
+    choices-const f = sum-cong (s .trains) _ _ (λ i h. train-const i (f i) h) ∙ sum-scale (s .trains) (w .fullWeight) f
 
     -- the sum over a pair's choices of what depends on one of them
     by-rows : (f : ℕ → ℕ → ℕ) → overPairs s w (λ k a b. f k a) ≡ sum (s .pairs) (λ k. sum (s .size (s .first k)) (λ a. w .choice (s .first k) a * f k a))
@@ -203,9 +203,9 @@ module _ (s : Shape) (w : Weights) where
       first-inside : (k : ℕ) → k < s .pairs → s .first k < s .trains
       first-inside k h = omega (arith, sh .ascends k h, sh .inside k h)
 
-      pairs-const : (f : ℕ → ℕ) → overPairs s w (λ k a b. f k) ≡ w .whole * sum (s .pairs) f
+      pairs-const : (f : ℕ → ℕ) → overPairs s w (λ k a b. f k) ≡ w .fullWeight * sum (s .pairs) f
       pairs-const f =
-          by-rows (λ k a. f k) ∙ sum-cong (s .pairs) _ _ (λ k h. train-const (s .first k) (f k) (first-inside k h)) ∙ sum-scale (s .pairs) (w .whole) f
+          by-rows (λ k a. f k) ∙ sum-cong (s .pairs) _ _ (λ k h. train-const (s .first k) (f k) (first-inside k h)) ∙ sum-scale (s .pairs) (w .fullWeight) f
 
 -- the weighted total, by the totals of plans that differ from base at one or two trains
 module _ (s : Shape) (sh : Shaped s) (w : Weights) (ag : Agrees s w) (t : Costs) where
@@ -218,14 +218,14 @@ module _ (s : Shape) (sh : Shaped s) (w : Weights) (ag : Agrees s w) (t : Costs)
 
   -- one pair's costs over all plans that differ from base at one train
   pair-over-ones : (k : ℕ) → k < s .pairs
-      → overChoices s w (λ i a. pair-at s sh t (one i a) k) + w .whole * t .pair k 0 0 + w .whole * t .pair k 0 0
-      ≡ s .trains * (w .whole * t .pair k 0 0) + row-sum k + column-sum k
+      → overChoices s w (λ i a. pair-at s sh t (one i a) k) + w .fullWeight * t .pair k 0 0 + w .fullWeight * t .pair k 0 0
+      ≡ s .trains * (w .fullWeight * t .pair k 0 0) + row-sum k + column-sum k
   unfolding overChoices row-sum column-sum pair-at
   pair-over-ones k h =
       omega (
         arith,
-        sum-two (s .trains) (s .first k) (s .second k) at-train (λ i. w .whole * t .pair k 0 0) (first-inside s w ag sh k h) (sh .inside k h) apart elsewhere,
-        sum-const (s .trains) (w .whole * t .pair k 0 0),
+        sum-two (s .trains) (s .first k) (s .second k) at-train (λ i. w .fullWeight * t .pair k 0 0) (first-inside s w ag sh k h) (sh .inside k h) apart elsewhere,
+        sum-const (s .trains) (w .fullWeight * t .pair k 0 0),
         at-first,
         at-second,
       )
@@ -236,7 +236,7 @@ module _ (s : Shape) (sh : Shaped s) (w : Weights) (ag : Agrees s w) (t : Costs)
       at-train : ℕ → ℕ
       at-train i = sum (s .size i) (λ a. w .choice i a * t .pair k (one i a (s .first k)) (one i a (s .second k)))
 
-      elsewhere : (i : ℕ) → i < s .trains → (i ≡ s .first k → ⊥) → (i ≡ s .second k → ⊥) → at-train i ≡ w .whole * t .pair k 0 0
+      elsewhere : (i : ℕ) → i < s .trains → (i ≡ s .first k → ⊥) → (i ≡ s .second k → ⊥) → at-train i ≡ w .fullWeight * t .pair k 0 0
       elsewhere i l e f =
           sum-cong (s .size i) _ _ (λ a q. ap (λ (v : ℕ). w .choice i a * v)
           (ap₂ (t .pair k) (update-other base i a (s .first k) (λ g. e (sym g))) (update-other base i a (s .second k) (λ g. f (sym g)))))
@@ -251,19 +251,19 @@ module _ (s : Shape) (sh : Shaped s) (w : Weights) (ag : Agrees s w) (t : Costs)
           (ap₂ (t .pair k) (update-other base (s .second k) b (s .first k) apart) (update-same base (s .second k) b (s .second k) refl)))
 
   -- all pairs' costs over all plans that differ from base at one train
-  pairs-over-ones : overChoices s w (λ i a. pairTotal s t (one i a)) + w .whole * pairTotal s t base + w .whole * pairTotal s t base
-      ≡ s .trains * (w .whole * pairTotal s t base) + sum (s .pairs) row-sum + sum (s .pairs) column-sum
+  pairs-over-ones : overChoices s w (λ i a. pairTotal s t (one i a)) + w .fullWeight * pairTotal s t base + w .fullWeight * pairTotal s t base
+      ≡ s .trains * (w .fullWeight * pairTotal s t base) + sum (s .pairs) row-sum + sum (s .pairs) column-sum
   unfolding pairTotal pair-at
   pairs-over-ones =
       let f : ℕ → ℕ = λ k. overChoices s w (λ i a. pair-at s sh t (one i a) k) in
-      let g : ℕ → ℕ = λ k. w .whole * t .pair k 0 0 in
-      let h : ℕ → ℕ = λ k. s .trains * (w .whole * t .pair k 0 0) in
+      let g : ℕ → ℕ = λ k. w .fullWeight * t .pair k 0 0 in
+      let h : ℕ → ℕ = λ k. s .trains * (w .fullWeight * t .pair k 0 0) in
       omega (
         arith,
         choices-sum s w (s .pairs) (λ k i a. pair-at s sh t (one i a) k),
-        sum-scale (s .pairs) (w .whole) (λ k. t .pair k 0 0),
+        sum-scale (s .pairs) (w .fullWeight) (λ k. t .pair k 0 0),
         sum-scale (s .pairs) (s .trains) g,
-        ap (λ (v : ℕ). s .trains * v) (sum-scale (s .pairs) (w .whole) (λ k. t .pair k 0 0)),
+        ap (λ (v : ℕ). s .trains * v) (sum-scale (s .pairs) (w .fullWeight) (λ k. t .pair k 0 0)),
         sum-add (s .pairs) (λ k. f k + g k) g,
         sum-add (s .pairs) f g,
         sum-add (s .pairs) (λ k. h k + row-sum k) column-sum,
@@ -276,8 +276,8 @@ module _ (s : Shape) (sh : Shaped s) (w : Weights) (ag : Agrees s w) (t : Costs)
   ones = overChoices s w (λ i a. total s t (one i a))
 
   -- the one-train comparison, weighted
-  ones-sum : ones + w .whole * choiceTotal s t base + s .trains * (w .whole * pairTotal s t base)
-      ≡ s .trains * (w .whole * total s t base) + overChoices s w (t .choice) + overChoices s w (λ i a. pairTotal s t (one i a))
+  ones-sum : ones + w .fullWeight * choiceTotal s t base + s .trains * (w .fullWeight * pairTotal s t base)
+      ≡ s .trains * (w .fullWeight * total s t base) + overChoices s w (t .choice) + overChoices s w (λ i a. pairTotal s t (one i a))
   unfolding ones choiceTotal
   ones-sum =
       omega (
@@ -292,14 +292,14 @@ module _ (s : Shape) (sh : Shaped s) (w : Weights) (ag : Agrees s w) (t : Costs)
         same (total s t base),
       )
     where
-      same : (c : ℕ) → overChoices s w (λ i a. c) ≡ s .trains * (w .whole * c)
-      same c = choices-const s w ag (λ i. c) ∙ ap (λ (v : ℕ). w .whole * v) (sum-const (s .trains) c) ∙ mul-left-comm (w .whole) (s .trains) c
+      same : (c : ℕ) → overChoices s w (λ i a. c) ≡ s .trains * (w .fullWeight * c)
+      same c = choices-const s w ag (λ i. c) ∙ ap (λ (v : ℕ). w .fullWeight * v) (sum-const (s .trains) c) ∙ mul-left-comm (w .fullWeight) (s .trains) c
 
   -- the two-train comparison, weighted
   twos-sum : overPairs s w (λ k a b. total s t (two (s .first k) a (s .second k) b)) + overPairs s w (λ k a b. total s t base)
       + sum (s .pairs) row-sum + sum (s .pairs) column-sum
       ≡ overPairs s w (λ k a b. total s t (one (s .first k) a)) + overPairs s w (λ k a b. total s t (one (s .second k) b))
-      + overPairs s w (t .pair) + w .whole * pairTotal s t base
+      + overPairs s w (t .pair) + w .fullWeight * pairTotal s t base
   unfolding row-sum column-sum pairTotal
   twos-sum =
       let x : ℕ → ℕ → ℕ → ℕ = λ k a b. total s t (two (s .first k) a (s .second k) b) in
@@ -322,9 +322,9 @@ module _ (s : Shape) (sh : Shaped s) (w : Weights) (ag : Agrees s w) (t : Costs)
 
   by-totals : weighted s w t
       + overPairs s w (λ k a b. total s t (one (s .first k) a)) + overPairs s w (λ k a b. total s t (one (s .second k) b))
-      + s .trains * (w .whole * total s t base)
+      + s .trains * (w .fullWeight * total s t base)
       ≡ overChoices s w (λ i a. total s t (one i a)) + overPairs s w (λ k a b. total s t (two (s .first k) a (s .second k) b))
-      + overPairs s w (λ k a b. total s t base) + w .whole * total s t base
+      + overPairs s w (λ k a b. total s t base) + w .fullWeight * total s t base
   unfolding weighted ones total
   by-totals =
       omega (
@@ -332,8 +332,8 @@ module _ (s : Shape) (sh : Shaped s) (w : Weights) (ag : Agrees s w) (t : Costs)
         ones-sum,
         twos-sum,
         pairs-over-ones,
-        mul-add (w .whole) (t .constant + choiceTotal s t base) (pairTotal s t base),
-        mul-add (w .whole) (t .constant) (choiceTotal s t base),
+        mul-add (w .fullWeight) (t .constant + choiceTotal s t base) (pairTotal s t base),
+        mul-add (w .fullWeight) (t .constant) (choiceTotal s t base),
       )
 
 module _ (s : Shape) (sh : Shaped s) where
@@ -362,8 +362,8 @@ module _ (s : Shape) (sh : Shaped s) (w : Weights) (ag : Agrees s w) (t u : Cost
         choices-cong s w _ _ (λ i a p q. same (one i a) (update-plan s sh base i a (base-plan s sh) q)),
         pairs-cong s w _ _ (λ k a b p q r. same (two (s .first k) a (s .second k) b) (update-plan s sh (one (s .first k) a) (s .second k) b (update-plan s sh base (s .first k) a (base-plan s sh) q) r)),
         pairs-cong s w _ _ (λ k a b p q r. same base (base-plan s sh)),
-        ap (λ (v : ℕ). w .whole * v) (same base (base-plan s sh)),
-        ap (λ (v : ℕ). s .trains * (w .whole * v)) (same base (base-plan s sh)),
+        ap (λ (v : ℕ). w .fullWeight * v) (same base (base-plan s sh)),
+        ap (λ (v : ℕ). s .trains * (w .fullWeight * v)) (same base (base-plan s sh)),
       )
 
 -- every cost times d
@@ -387,25 +387,25 @@ module _ (s : Shape) (d : ℕ) (t : Costs) where
   weighted-times w =
       omega (
         arith,
-        mul-left-comm (w .whole) d (t .constant),
+        mul-left-comm (w .fullWeight) d (t .constant),
         choices-scale s w d (t .choice),
         pairs-scale s w d (t .pair),
-        mul-add d (w .whole * t .constant + overChoices s w (t .choice)) (overPairs s w (t .pair)),
-        mul-add d (w .whole * t .constant) (overChoices s w (t .choice)),
+        mul-add d (w .fullWeight * t .constant + overChoices s w (t .choice)) (overPairs s w (t .pair)),
+        mul-add d (w .fullWeight * t .constant) (overChoices s w (t .choice)),
       )
 
 -- the constant raised by e
 abbrev raised : ℕ → Costs → Costs
 raised e t = record { constant = t .constant + e; choice = t .choice; pair = t .pair }
 
--- a rival whose costs are the naturals u over d, with a constant less e over d, and whose totals are t's: the whole times its constant is at most E
+-- a rival whose costs are the naturals u over d, with a constant less e over d, and whose totals are t's: W times its constant is at most E
 pub rival-bound : (s : Shape) → Shaped s → (w : Weights) → Agrees s w → (d e : ℕ) (t u : Costs)
-    → ((x : ℕ → ℕ) → IsPlan s x → d * total s t x + e ≡ total s u x) → w .whole * u .constant ≤ d * weighted s w t + w .whole * e
+    → ((x : ℕ → ℕ) → IsPlan s x → d * total s t x + e ≡ total s u x) → w .fullWeight * u .constant ≤ d * weighted s w t + w .fullWeight * e
 unfolding weighted total choiceTotal pairTotal
 rival-bound s sh w ag d e t u same =
     omega (
       arith,
       weighted-times s d t w,
-      mul-add (w .whole) (d * t .constant) e,
+      mul-add (w .fullWeight) (d * t .constant) e,
       same-weighted s sh w ag (raised e (times d t)) u (λ x p. omega (arith, total-times s d t x, same x p)),
     )

@@ -1,6 +1,6 @@
 -- The runs of a certificate: they are all there, they say what the rule says, and once their sums are judged E fits. For every size.
-use mathlib.Core.Path.{_≡_, sym, ap, ap₂, _∙_}
-use mathlib.Core.Bool.{true, false, _&&_}
+use mathlib.Core.Path.{_≡_, refl, sym, ap, ap₂, _∙_}
+use mathlib.Core.Bool.{Bool, true, false, cond, _&&_}
 use mathlib.Core.List.{List}
 use Prim.Native.Nat.{ℕ, _+_, _*_, _<_, _≤_}
 use native.Mathlib.Nat.{one-mul, mul-le-mul, mul-le-mul-right}
@@ -10,7 +10,7 @@ use lib.IntN.{ℤ}
 use lib.ListN.{length, getD}
 use borrow.Author.Tests.{eq-eqb, ne-eqb, eqb-true}
 use Rattle.tables.specs.Sum.{sum}
-use Rattle.tables.specs.Ranges.{maxWhole}
+use Rattle.tables.specs.Ranges.{maxFullWeight}
 use Rattle.tables.specs.Range.{all}
 use Rattle.tables.specs.Block.{maxTrains, maxChoices, maxPairs, maxParts, figure, heldChoicePlace, heldEntryPlace, trains, pairs, constant, size, first, second}
 use Rattle.tables.specs.WellFormed.{Study}
@@ -19,28 +19,29 @@ use Rattle.tables.specs.Runs.{choicesBefore, entriesBefore}
 use Rattle.tables.proofs.Sum.{sum-cong, sum-term, sum-more, sum-most, sum-front, sum-weighted, row-part}
 use Rattle.tables.proofs.Range.{all-true, all-cong, both-true}
 use Rattle.tables.proofs.Study.{trains-range, pairs-range, constant-range, size-range, first-below-trains, second-below-trains, held-choice-range, held-entry-range}
+use Rattle.certificates.specs.declared.certify.Judged.the-variants.{Disagree, Part}
 use Rattle.certificates.specs.Certify.{trainBalanced, rowBalanced, columnBalanced, pairBalanced, balanced, overChoices, overPairs, weighted, weightsOf, WeightsFor, ceiling}
-use Rattle.certificates.specs.Runs.{runSum, Run, runWeighted, Light, runsMatch, Runs, trainsMatch, entries, entriesFrom, pairMatches, pairsMatch, trainWeighted, trainsWeighted, rowWeighted, pairWeighted, pairsWeighted, LightRuns}
+use Rattle.certificates.specs.Runs.{runSum, WeightRun, runWeighted, WeightsWithin, runsMatch, WeightRuns, trainsMatch, entries, entriesFrom, trainMatches, pairMatches, pairsMatch, trainWeighted, trainsWeighted, rowWeighted, pairWeighted, pairsWeighted, TrainsWithin, RowsWithin}
 
 -- ---- one run
 
 -- the most that one run adds to E
 abbrev pub maxRun : ℕ
-maxRun = maxWhole * maxParts
+maxRun = maxFullWeight * maxParts
 
 next-to : (l : List ℕ) (from n : ℕ) → runSum l from 1 n ≡ sum n (λ k. getD l (from + k) 0)
 next-to l from n = sum-cong n _ _ (λ k h. rw one-mul)
 
 -- a run whose weights sum to at most W, and any front of it
-pub run-most : (l : List ℕ) (from : ℕ) (b : List ℤ) (place count : ℕ) → runSum l from 1 count ≤ maxWhole
+pub run-most : (l : List ℕ) (from : ℕ) (b : List ℤ) (place count : ℕ) → runSum l from 1 count ≤ maxFullWeight
     → ((k : ℕ) → k < count → figure b (place + k) ≤ maxParts) → (n : ℕ) → n ≤ count → runWeighted l from b place n ≤ maxRun
 run-most l from b place count h q n r =
     let w : ℕ → ℕ = λ k. getD l (from + k) 0 in
-    let e : sum n w ≤ maxWhole = omega (arith, next-to l from count, sum-front n count w r) in
+    let e : sum n w ≤ maxFullWeight = omega (arith, next-to l from count, sum-front n count w r) in
     omega (arith, sum-weighted n maxParts w (λ k. figure b (place + k)) (λ k p. q k (omega arith)), mul-le-mul-right maxParts e)
 
--- the next weight of a light run
-pub run-next : {l : List ℕ} {from : ℕ} {b : List ℤ} {place count : ℕ} → Light l from b place count → (k : ℕ) → k < count
+-- the next weight of such a run
+pub run-next : {l : List ℕ} {from : ℕ} {b : List ℤ} {place count : ℕ} → WeightsWithin l from b place count → (k : ℕ) → k < count
     → {x r : ℕ} → x ≡ runWeighted l from b place k → r ≡ figure b (place + k)
     → (x + getD l (from + k) 0 * r ≡ runWeighted l from b place (k + 1)) × (x + getD l (from + k) 0 * r ≤ maxRun)
 run-next {l} {from} {b} {place} {count} h k q {x} {r} e f =
@@ -65,13 +66,13 @@ module _ (b : List ℤ) where
 
 -- row a of a table of so many columns ends where the next begins
 module _ {b : List ℤ} {l : List ℕ} (s : Study b) (w : WeightsFor b l) where
-  run-of : (from step count : ℕ) → (1 ≤ count) × (count ≤ maxChoices) → ((k : ℕ) → k < count → from + step * k < length l) → Run l from step count
+  run-of : (from step count : ℕ) → (1 ≤ count) × (count ≤ maxChoices) → ((k : ℕ) → k < count → from + step * k < length l) → WeightRun l from step count
   run-of from step count h q = record { some = h .0; few = h .1; inside = q; small = λ k r. w .small (from + step * k) (q k r) }
 
   pub train-inside : (i : ℕ) → i < trains b → choicesBefore b i + size b i ≤ length l
   train-inside i h = omega (arith, train-end b i h, w .count)
 
-  pub train-run : (i : ℕ) → i < trains b → Run l (choicesBefore b i) 1 (size b i)
+  pub train-run : (i : ℕ) → i < trains b → WeightRun l (choicesBefore b i) 1 (size b i)
   train-run i h = run-of (choicesBefore b i) 1 (size b i) (size-range s i h) (λ k q. omega (arith, train-inside i h))
 
   module _ (k : ℕ) (h : k < pairs b) where
@@ -87,74 +88,103 @@ module _ {b : List ℤ} {l : List ℕ} (s : Study b) (w : WeightsFor b l) where
     pub row-inside : (a : ℕ) → a < size b (first b k) → entriesFrom b k + size b (second b k) * a + size b (second b k) ≤ length l
     row-inside a q = omega (arith, pair-inside, row-part (size b (first b k)) (size b (second b k)) a q)
 
-    pub rows-runs : Runs l (entriesFrom b k) (size b (second b k)) 1 (size b (second b k)) (choicesBefore b (first b k)) (size b (first b k))
+    pub rows-runs : WeightRuns l (entriesFrom b k) (size b (second b k)) 1 (size b (second b k)) (choicesBefore b (first b k)) (size b (first b k))
     rows-runs =
         record {
           each = λ a q. run-of _ 1 (size b (second b k)) columns-few (λ c r. omega (arith, row-inside a q));
           inside = train-inside (first b k) (first-below-trains s k h);
         }
 
-    pub columns-runs : Runs l (entriesFrom b k) 1 (size b (second b k)) (size b (first b k)) (choicesBefore b (second b k)) (size b (second b k))
+    pub columns-runs : WeightRuns l (entriesFrom b k) 1 (size b (second b k)) (size b (first b k)) (choicesBefore b (second b k)) (size b (second b k))
     columns-runs =
         record {
           each = λ c q. run-of _ (size b (second b k)) (size b (first b k)) rows-few (λ a r. omega (arith, row-inside a r));
           inside = train-inside (second b k) (second-below-trains s k h);
         }
 
--- ---- the most that each run adds, once the sums are judged
+-- ---- the most that each run adds, once its sum is judged
 
-module _ {b : List ℤ} {l : List ℕ} (s : Study b) (t : LightRuns b l) where
-  module _ (i : ℕ) (h : i < trains b) where
-    train-costs : (a : ℕ) → a < size b i → figure b (heldChoicePlace i 0 + a) ≤ maxParts
-    train-costs a q = let e : heldChoicePlace i 0 + a ≡ heldChoicePlace i a = omega arith in rw e (held-choice-range s i a h q .high)
+module _ {b : List ℤ} (s : Study b) where
+  train-costs : (i : ℕ) → i < trains b → (a : ℕ) → a < size b i → figure b (heldChoicePlace i 0 + a) ≤ maxParts
+  train-costs i h a q = let e : heldChoicePlace i 0 + a ≡ heldChoicePlace i a = omega arith in rw e (held-choice-range s i a h q .high)
 
-    pub train-light : WeightsFor b l → Light l (choicesBefore b i) b (heldChoicePlace i 0) (size b i)
-    train-light w =
-        record {
-          inside = train-inside s w i h;
-          places = omega (arith, s .whole, trains-range s, size-range s i h);
-          sum = t .trains i h;
-          costs = train-costs;
-        }
+  row-costs : (k : ℕ) → k < pairs b → (a : ℕ) → a < size b (first b k) → (c : ℕ) → c < size b (second b k) → figure b (heldEntryPlace k a 0 + c) ≤ maxParts
+  row-costs k h a q c r = let e : heldEntryPlace k a 0 + c ≡ heldEntryPlace k a c = omega arith in rw e (held-entry-range s k h a c q r .high)
 
-  pub trains-most : (n : ℕ) → n ≤ trains b → sum n (trainWeighted b l) ≤ n * maxRun
+  -- the trains below n, whose weights sum to W each
+  pub trains-most : (l : List ℕ) {fullWeight : ℕ} → fullWeight ≤ maxFullWeight → (n : ℕ) → n ≤ trains b → all n (trainMatches b l fullWeight) ≡ true → sum n (trainWeighted b l) ≤ n * maxRun
   unfolding trainWeighted
-  trains-most n q = sum-most n maxRun (trainWeighted b l) (λ i r. run-most l _ b _ (size b i) (t .trains i (omega arith)) (train-costs i (omega arith)) (size b i) (omega arith))
+  trains-most l {fullWeight} g n q e =
+      sum-most n maxRun (trainWeighted b l)
+      (λ i r. run-most l _ b _ (size b i) (omega (arith, train-sum i r)) (train-costs i (omega arith)) (size b i) (omega arith))
+    where
+      train-sum : (i : ℕ) → i < n → runSum l (choicesBefore b i) 1 (size b i) ≡ fullWeight
+      train-sum i r = eqb-true _ _ (all-true (trainMatches b l fullWeight) n e i r)
 
-  module _ (k : ℕ) (h : k < pairs b) where
-    row-costs : (a : ℕ) → a < size b (first b k) → (c : ℕ) → c < size b (second b k) → figure b (heldEntryPlace k a 0 + c) ≤ maxParts
-    row-costs a q c r = let e : heldEntryPlace k a 0 + c ≡ heldEntryPlace k a c = omega arith in rw e (held-entry-range s k h a c q r .high)
+module _ {b : List ℤ} {l : List ℕ} (s : Study b) where
+  pub train-weights : WeightsFor b l → (i : ℕ) → i < trains b → runSum l (choicesBefore b i) 1 (size b i) ≤ maxFullWeight → WeightsWithin l (choicesBefore b i) b (heldChoicePlace i 0) (size b i)
+  train-weights w i h t =
+      record {
+        inside = train-inside s w i h;
+        places = omega (arith, s .whole, trains-range s, size-range s i h);
+        sum = t;
+        costs = train-costs s i h;
+      }
 
-    pub row-light : WeightsFor b l → (a : ℕ) → a < size b (first b k)
-        → Light l (entriesFrom b k + size b (second b k) * a) b (heldEntryPlace k a 0) (size b (second b k))
-    row-light w a q =
+  module _ (k : ℕ) (h : k < pairs b) (t : RowsWithin b l k) where
+    pub row-weights : WeightsFor b l → (a : ℕ) → a < size b (first b k)
+        → WeightsWithin l (entriesFrom b k + size b (second b k) * a) b (heldEntryPlace k a 0) (size b (second b k))
+    row-weights w a q =
         record {
           inside = row-inside s w k h a q;
           places = omega (arith, s .whole, pairs-range s, rows-few s w k h, columns-few s w k h);
-          sum = t .rows k a h q;
-          costs = row-costs a q;
+          sum = t .sums a q;
+          costs = row-costs s k h a q;
         }
 
     pub rows-most : (n : ℕ) → n ≤ size b (first b k) → sum n (rowWeighted b l k) ≤ n * maxRun
     unfolding rowWeighted
     rows-most n q =
         sum-most n maxRun (rowWeighted b l k)
-        (λ a r. run-most l _ b _ (size b (second b k)) (t .rows k a h (omega arith)) (row-costs a (omega arith)) (size b (second b k)) (omega arith))
+        (λ a r. run-most l _ b _ (size b (second b k)) (t .sums a (omega arith)) (row-costs s k h a (omega arith)) (size b (second b k)) (omega arith))
 
-  pub pairs-most : (n : ℕ) → n ≤ pairs b → sum n (pairWeighted b l) ≤ n * (maxChoices * maxRun)
-  unfolding pairWeighted
-  pairs-most n q =
-      sum-most n (maxChoices * maxRun) (pairWeighted b l)
-      (λ k r. omega (arith, rows-most k (omega arith) (size b (first b k)) (omega arith), size-range s (first b k) (first-below-trains s k (omega arith))))
+  module _ (t : TrainsWithin b l) where
+    -- a row sums to its choice's weight, and that is one of its train's
+    pub rows-within : (k : ℕ) → k < pairs b → pairMatches b l k ≡ true → RowsWithin b l k
+    unfolding pairMatches
+    rows-within k h e =
+        record {
+          sums = λ a r.
+              let i = first b k in
+              let m : runSum l (entriesFrom b k + size b (second b k) * a) 1 (size b (second b k)) ≡ getD l (choicesBefore b i + a) 0 = eqb-true _ _ (all-true _ (size b i) (both-true _ _ e .0) a r) in
+              omega (
+                arith,
+                sum-term (size b i) a (λ c. getD l (choicesBefore b i + c) 0) r,
+                next-to l (choicesBefore b i) (size b i),
+                t .sums i (first-below-trains s k h),
+              );
+        }
+
+    -- the pairs below n, whose sums agree
+    pub pairs-most : (n : ℕ) → n ≤ pairs b → all n (pairMatches b l) ≡ true → sum n (pairWeighted b l) ≤ n * (maxChoices * maxRun)
+    unfolding pairWeighted
+    pairs-most n q e =
+        sum-most n (maxChoices * maxRun) (pairWeighted b l)
+        (λ k r.
+        omega (
+          arith,
+          rows-most k (omega arith) (rows-within k (omega arith) (all-true (pairMatches b l) n e k r)) (size b (first b k)) (omega arith),
+          size-range s (first b k) (first-below-trains s k (omega arith)),
+        ))
 
 -- ---- the runs say what the rule says
 
-module _ (b : List ℤ) (whole : ℕ) (l : List ℕ) where
-  trains-same : all (trains b) (trainBalanced (shapeOf b) (weightsOf b whole l)) ≡ trainsMatch b l whole
+module _ (b : List ℤ) (fullWeight : ℕ) (l : List ℕ) where
+  trains-same : all (trains b) (trainBalanced (shapeOf b) (weightsOf b fullWeight l)) ≡ trainsMatch b l fullWeight
   unfolding trainBalanced trainsMatch shapeOf
-  trains-same = all-cong (trains b) _ _ (λ i h. ap (λ (v : ℕ). eqb v whole) (sym (next-to l (choicesBefore b i) (size b i))))
+  trains-same = all-cong (trains b) _ _ (λ i h. ap (λ (v : ℕ). eqb v fullWeight) (sym (next-to l (choicesBefore b i) (size b i))))
 
-  pair-same : (k : ℕ) → pairBalanced (shapeOf b) (weightsOf b whole l) k ≡ pairMatches b l k
+  pair-same : (k : ℕ) → pairBalanced (shapeOf b) (weightsOf b fullWeight l) k ≡ pairMatches b l k
   unfolding pairBalanced rowBalanced columnBalanced pairMatches shapeOf
   pair-same k =
       ap₂ _&&_
@@ -163,14 +193,14 @@ module _ (b : List ℤ) (whole : ℕ) (l : List ℕ) where
       (all-cong (size b (second b k)) _ _ (λ c h. ap (λ (v : ℕ). eqb v (getD l (choicesBefore b (second b k) + c) 0))
       (sum-cong (size b (first b k)) _ _ (λ a q. ap (λ (p : ℕ). getD l p 0) (omega arith)))))
 
-  pub balanced-runs : balanced (shapeOf b) (weightsOf b whole l) ≡ trainsMatch b l whole && pairsMatch b l
+  pub balanced-runs : balanced (shapeOf b) (weightsOf b fullWeight l) ≡ trainsMatch b l fullWeight && pairsMatch b l
   unfolding balanced pairsMatch shapeOf
   balanced-runs = ap₂ _&&_ trains-same (all-cong (pairs b) _ _ (λ k h. pair-same k))
 
-  pub weighted-runs : ceiling b (weightsOf b whole l) ≡ whole * constant b + trainsWeighted b l + pairsWeighted b l
+  pub weighted-runs : ceiling b (weightsOf b fullWeight l) ≡ fullWeight * constant b + trainsWeighted b l + pairsWeighted b l
   unfolding weighted overChoices overPairs shapeOf heldCosts trainsWeighted trainWeighted pairsWeighted pairWeighted rowWeighted
   weighted-runs =
-      ap₂ (λ (x y : ℕ). whole * constant b + x + y)
+      ap₂ (λ (x y : ℕ). fullWeight * constant b + x + y)
       (sum-cong (trains b) _ _ (λ i h. sum-cong (size b i) _ _ (λ a q. ap (λ (p : ℕ). getD l (choicesBefore b i + a) 0 * figure b p) (omega arith))))
       (sum-cong (pairs b) _ _ (λ k h. sum-cong (size b (first b k)) _ _ (λ a q. sum-cong (size b (second b k)) _ _ (λ c r. ap₂ (λ (o p : ℕ). getD l o 0 * figure b p) (omega arith) (omega arith)))))
 
@@ -181,30 +211,34 @@ pub pair-by-runs : (b : List ℤ) (l : List ℕ) (k : ℕ) {i j rows columns fro
 unfolding pairMatches
 pair-by-runs b l k p q r t f u v = rw (r, t, f, u, v, p, q)
 
--- once the sums are judged, no run sums to more than W
-pub light-runs : {b : List ℤ} {l : List ℕ} {whole : ℕ} → Study b → whole ≤ maxWhole → trainsMatch b l whole ≡ true → pairsMatch b l ≡ true → LightRuns b l
-unfolding trainsMatch pairsMatch pairMatches
-light-runs {b} {l} {whole} s h e f = record { trains = λ i q. omega (arith, train i q); rows = row }
-  where
-    train : (i : ℕ) → i < trains b → runSum l (choicesBefore b i) 1 (size b i) ≡ whole
-    train i q = eqb-true _ _ (all-true _ (trains b) e i q)
+-- ---- what the walks over trains and pairs answer
 
-    row : (k a : ℕ) → k < pairs b → a < size b (first b k) → runSum l (entriesFrom b k + size b (second b k) * a) 1 (size b (second b k)) ≤ maxWhole
-    row k a q r =
-        let i = first b k in
-        let rows = both-true _ _ (all-true (pairMatches b l) (pairs b) f k q) .0 in
-        let m : runSum l (entriesFrom b k + size b (second b k) * a) 1 (size b (second b k)) ≡ getD l (choicesBefore b i + a) 0 = eqb-true _ _ (all-true _ (size b i) rows a r) in
-        omega (
-          arith,
-          sum-term (size b i) a (λ c. getD l (choicesBefore b i + c) 0) r,
-          next-to l (choicesBefore b i) (size b i),
-          train i (first-below-trains s k q),
-        )
+-- once the trains are judged, none sums to more than W
+pub trains-within : {b : List ℤ} {l : List ℕ} {fullWeight : ℕ} → fullWeight ≤ maxFullWeight → trainsMatch b l fullWeight ≡ true → TrainsWithin b l
+unfolding trainsMatch
+trains-within {b} {l} {fullWeight} h e = record { sums = λ i q. let t : runSum l (choicesBefore b i) 1 (size b i) ≡ fullWeight = eqb-true _ _ (all-true (trainMatches b l fullWeight) (trains b) e i q) in omega arith }
+
+-- a part was given where the sums agree, and none where they disagree
+pub part-given : (t : Bool) (x : ℕ) {y : ℕ} → cond t (Part x) Disagree ≡ Part y → (t ≡ true) × (y ≡ x)
+part-given true x e = (refl, cc)
+part-given false x e = let z : _≡_ {A = ℕ} 0 1 = cc in absurd (omega arith)
+
+pub none-given : (t : Bool) (x : ℕ) → cond t (Part x) Disagree ≡ Disagree → t ≡ false
+none-given true x e = let z : _≡_ {A = ℕ} 0 1 = cc in absurd (omega arith)
+none-given false x e = refl
 
 -- so E fits
-pub floor-most : {b : List ℤ} {whole : ℕ} → Study b → whole ≤ maxWhole → whole * constant b ≤ maxRun
+pub floor-most : {b : List ℤ} {fullWeight : ℕ} → Study b → fullWeight ≤ maxFullWeight → fullWeight * constant b ≤ maxRun
 floor-most s h = mul-le-mul h (constant-range s)
 
-pub parts-most : {b : List ℤ} {l : List ℕ} → Study b → LightRuns b l → trainsWeighted b l + pairsWeighted b l ≤ maxTrains * maxRun + maxPairs * (maxChoices * maxRun)
-unfolding trainsWeighted pairsWeighted
-parts-most {b} {l} s t = omega (arith, trains-most s t (trains b) (omega arith), pairs-most s t (pairs b) (omega arith), trains-range s, pairs-range s)
+pub parts-most : {b : List ℤ} (l : List ℕ) {fullWeight : ℕ} → Study b → fullWeight ≤ maxFullWeight → trainsMatch b l fullWeight ≡ true → pairsMatch b l ≡ true
+    → trainsWeighted b l + pairsWeighted b l ≤ maxTrains * maxRun + maxPairs * (maxChoices * maxRun)
+unfolding trainsMatch trainsWeighted pairsMatch pairsWeighted
+parts-most {b} l s h e f =
+    omega (
+      arith,
+      trains-most s l h (trains b) (omega arith) e,
+      pairs-most s (trains-within h e) (pairs b) (omega arith) f,
+      trains-range s,
+      pairs-range s,
+    )

@@ -20,13 +20,13 @@ weightsBelow = 2 ^ 24
 
 -- 'W (3), weights w_i(a), weights z_ij(a,b)'
 pub record Weights : Type 0 where
-  pub whole : ℕ
+  pub fullWeight : ℕ
   pub choice : ℕ → ℕ → ℕ
   pub pair : ℕ → ℕ → ℕ → ℕ
 
 -- 'Each train's w sum to W'
 unfoldable pub trainBalanced : Shape → Weights → ℕ → Bool
-trainBalanced s w i = eqb (sum (s .size i) (λ a. w .choice i a)) (w .whole)
+trainBalanced s w i = eqb (sum (s .size i) (λ a. w .choice i a)) (w .fullWeight)
 
 -- 'Each row of z sums to w_i(a)'
 unfoldable pub rowBalanced : Shape → Weights → ℕ → ℕ → Bool
@@ -52,13 +52,13 @@ overPairs s w f = sum (s .pairs) (λ k. sum (s .size (s .first k)) (λ a. sum (s
 
 -- 'E = W × c0 + sum of w × c_i + sum of z × c_ij'
 unfoldable pub weighted : Shape → Weights → Costs → ℕ
-weighted s w t = w .whole * t .constant + overChoices s w (t .choice) + overPairs s w (t .pair)
+weighted s w t = w .fullWeight * t .constant + overChoices s w (t .choice) + overPairs s w (t .pair)
 
 -- the weights of a line, 'ordered as in a load': all w, then all z
 abbrev pub weightsOf : List ℤ → ℕ → List ℕ → Weights
-weightsOf b whole l =
+weightsOf b fullWeight l =
     record {
-      whole = whole;
+      fullWeight = fullWeight;
       choice = λ i a. getD l (choicesBefore b i + a) 0;
       pair = λ k a c. getD l (choicesBefore b (trains b) + (entriesBefore b k + (size b (second b k) * a + c))) 0;
     }
@@ -74,4 +74,4 @@ ceiling b w = weighted (shapeOf b) w (heldCosts b)
 
 -- 'Reached means E = W × c0'
 abbrev pub certificate : List ℤ → Weights → Certificate
-certificate b w = cond (balanced (shapeOf b) w) (Balanced (record { reached = eqb (ceiling b w) (w .whole * constant b); weighted = ceiling b w })) Unbalanced
+certificate b w = cond (balanced (shapeOf b) w) (Balanced (record { reached = eqb (ceiling b w) (w .fullWeight * constant b); weighted = ceiling b w })) Unbalanced

@@ -1,3 +1,5 @@
+-- The rule.
 pub mod Certify
-pub mod Runs
 pub mod Rival
+-- What only private functions promise: the rule by runs of weights.
+pub mod Runs

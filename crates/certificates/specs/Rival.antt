@@ -14,8 +14,8 @@ pub record Fraction : Type 0 where
   pub above : 0 < den
 
 -- a whole number as a fraction
-unfoldable pub whole : ℕ → Fraction
-whole n = record { num = n; den = 1; above = omega arith }
+unfoldable pub asFraction : ℕ → Fraction
+asFraction n = record { num = n; den = 1; above = omega arith }
 
 unfoldable pub plus : Fraction → Fraction → Fraction
 plus f g = record { num = f .num * g .den + g .num * f .den; den = f .den * g .den; above = mul-pos (f .above) (g .above) }
@@ -24,7 +24,7 @@ unfoldable pub times : ℕ → Fraction → Fraction
 times n f = record { num = n * f .num; den = f .den; above = f .above }
 
 unfoldable pub sumOf : ℕ → (ℕ → Fraction) → Fraction
-sumOf zero f = whole 0
+sumOf zero f = asFraction 0
 sumOf (suc n) f = plus (sumOf n f) (f n)
 
 -- the same number, however it is written
@@ -49,8 +49,8 @@ rivalTotal s r x = plus (plus (r .gain) (sumOf (s .trains) (λ i. r .choice i (x
 
 -- a rival 'gives every plan the total' that f says
 unfoldable pub IsRival : Shape → ((ℕ → ℕ) → ℕ) → Rival → Type 0
-IsRival s f r = (x : ℕ → ℕ) → IsPlan s x → Same (rivalTotal s r x) (plus (whole (f x)) (r .loss))
+IsRival s f r = (x : ℕ → ℕ) → IsPlan s x → Same (rivalTotal s r x) (plus (asFraction (f x)) (r .loss))
 
 -- 'W × the constant of every rival is at most E'
 unfoldable pub ConstantAtMost : ℕ → ℕ → Rival → Type 0
-ConstantAtMost w e r = AtMost (times w (r .gain)) (plus (whole e) (times w (r .loss)))
+ConstantAtMost w e r = AtMost (times w (r .gain)) (plus (asFraction e) (times w (r .loss)))

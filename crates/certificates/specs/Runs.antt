@@ -1,16 +1,18 @@
 -- The rule of specs/Certify.antt by runs of weights, as the code goes through them. No part of the rule: proofs/Runs.antt shows that they say the same.
 use mathlib.Core.Path.{_≡_}
-use mathlib.Core.Bool.{Bool, _&&_}
+use mathlib.Core.Bool.{Bool, cond, _&&_}
 use mathlib.Core.List.{List}
 use Prim.Native.Nat.{ℕ, _+_, _*_, _<_, _≤_}
 use lib.Dec.{eqb}
 use lib.IntN.{ℤ}
 use lib.ListN.{length, getD}
 use Rattle.tables.specs.Sum.{sum}
-use Rattle.tables.specs.Ranges.{maxWhole}
+use Rattle.tables.specs.Ranges.{maxFullWeight}
 use Rattle.tables.specs.Range.{all}
 use Rattle.tables.specs.Block.{maxChoices, maxParts, heldChoicePlace, heldEntryPlace, figure, trains, pairs, size, first, second}
 use Rattle.tables.specs.Runs.{choicesBefore, entriesBefore}
+use Rattle.certificates.specs.declared.certify.Judged.{Judged}
+use Rattle.certificates.specs.declared.certify.Judged.the-variants.{Disagree, Part}
 use Rattle.certificates.specs.Certify.{weightsBelow}
 
 -- ---- one run
@@ -20,7 +22,7 @@ abbrev pub runSum : List ℕ → ℕ → ℕ → ℕ → ℕ
 runSum l from step count = sum count (λ k. getD l (from + step * k) 0)
 
 -- a run of one to eight weights of a line
-pub record Run (l : List ℕ) (from step count : ℕ) : Type 0 where
+pub record WeightRun (l : List ℕ) (from step count : ℕ) : Type 0 where
   pub some : 1 ≤ count
   pub few : count ≤ maxChoices
   pub inside : (k : ℕ) → k < count → from + step * k < length l
@@ -31,10 +33,10 @@ abbrev pub runWeighted : List ℕ → ℕ → List ℤ → ℕ → ℕ → ℕ
 runWeighted l from b place count = sum count (λ k. getD l (from + k) 0 * figure b (place + k))
 
 -- a run of weights whose sum is no more than W may be, and the held costs that it weighs
-pub record Light (l : List ℕ) (from : ℕ) (b : List ℤ) (place count : ℕ) : Type 0 where
+pub record WeightsWithin (l : List ℕ) (from : ℕ) (b : List ℤ) (place count : ℕ) : Type 0 where
   pub inside : from + count ≤ length l
   pub places : place + count ≤ length b
-  pub sum : runSum l from 1 count ≤ maxWhole
+  pub sum : runSum l from 1 count ≤ maxFullWeight
   pub costs : (k : ℕ) → k < count → figure b (place + k) ≤ maxParts
 
 -- ---- the runs of a certificate
@@ -46,16 +48,16 @@ runMatches l from apart step count choices r = eqb (runSum l (from + apart * r) 
 abbrev pub runsMatch : List ℕ → ℕ → ℕ → ℕ → ℕ → ℕ → ℕ → Bool
 runsMatch l from apart step count choices runs = all runs (runMatches l from apart step count choices)
 
-pub record Runs (l : List ℕ) (from apart step count choices runs : ℕ) : Type 0 where
-  pub each : (r : ℕ) → r < runs → Run l (from + apart * r) step count
+pub record WeightRuns (l : List ℕ) (from apart step count choices runs : ℕ) : Type 0 where
+  pub each : (r : ℕ) → r < runs → WeightRun l (from + apart * r) step count
   pub inside : choices + runs ≤ length l
 
 -- the weights of each train sum to W
 abbrev pub trainMatches : List ℤ → List ℕ → ℕ → ℕ → Bool
-trainMatches b l whole i = eqb (runSum l (choicesBefore b i) 1 (size b i)) whole
+trainMatches b l fullWeight i = eqb (runSum l (choicesBefore b i) 1 (size b i)) fullWeight
 
 unfoldable pub trainsMatch : List ℤ → List ℕ → ℕ → Bool
-trainsMatch b l whole = all (trains b) (trainMatches b l whole)
+trainsMatch b l fullWeight = all (trains b) (trainMatches b l fullWeight)
 
 -- how many entries pair k has, and where its weights begin
 abbrev pub entries : List ℤ → ℕ → ℕ
@@ -93,7 +95,16 @@ pairWeighted b l k = sum (size b (first b k)) (rowWeighted b l k)
 unfoldable pub pairsWeighted : List ℤ → List ℕ → ℕ
 pairsWeighted b l = sum (pairs b) (pairWeighted b l)
 
--- the runs of a certificate whose sums have been judged
-pub record LightRuns (b : List ℤ) (l : List ℕ) : Type 0 where
-  pub trains : (i : ℕ) → i < trains b → runSum l (choicesBefore b i) 1 (size b i) ≤ maxWhole
-  pub rows : (k a : ℕ) → k < pairs b → a < size b (first b k) → runSum l (entriesFrom b k + size b (second b k) * a) 1 (size b (second b k)) ≤ maxWhole
+-- E's part that the trains have, and the pairs, where their sums agree
+abbrev pub trainsJudged : List ℤ → List ℕ → ℕ → Judged
+trainsJudged b l fullWeight = cond (trainsMatch b l fullWeight) (Part (trainsWeighted b l)) Disagree
+
+abbrev pub pairsJudged : List ℤ → List ℕ → Judged
+pairsJudged b l = cond (pairsMatch b l) (Part (pairsWeighted b l)) Disagree
+
+-- no train's weights, and no row's of pair k, sum to more than W may be: so it is once they have been judged
+pub record TrainsWithin (b : List ℤ) (l : List ℕ) : Type 0 where
+  pub sums : (i : ℕ) → i < trains b → runSum l (choicesBefore b i) 1 (size b i) ≤ maxFullWeight
+
+pub record RowsWithin (b : List ℤ) (l : List ℕ) (k : ℕ) : Type 0 where
+  pub sums : (a : ℕ) → a < size b (first b k) → runSum l (entriesFrom b k + size b (second b k) * a) 1 (size b (second b k)) ≤ maxFullWeight

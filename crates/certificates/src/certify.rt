@@ -1,12 +1,12 @@
-// Document 01, '05 certify'. The weights' sums are judged first; after that no weight is above W, so that E fits.
+// Document 01, '05 certify'. Each train, then each pair, is judged before it is weighed: its weights are then at most W, so that E fits.
 ghost use mathlib.Core.Path.{_≡_};
 ghost use Prim.Native.Nat.{_<_, _≤_};
 ghost use Rattle.tables.specs.Block.{trains, pairs};
-ghost use Rattle.tables.specs.Ranges.{maxWhole};
+ghost use Rattle.tables.specs.Ranges.{maxFullWeight};
 ghost use Rattle.tables.specs.WellFormed.{Study};
 ghost use Rattle.tables.specs.Runs.{choicesBefore};
 ghost use Rattle.certificates.specs.Certify.{WeightsFor, weightsOf, certificate};
-ghost use Rattle.certificates.specs.Runs.{runSum, Run, runWeighted, Light, runsMatch, Runs, trainsMatch, entries, PairFrom, pairMatches, pairsMatch, trainsWeighted, pairWeighted, pairsWeighted, LightRuns};
+ghost use Rattle.certificates.specs.Runs.{runSum, WeightRun, runWeighted, WeightsWithin, runsMatch, WeightRuns, trainsJudged, entries, PairFrom, pairMatches, pairWeighted, pairsJudged, TrainsWithin, RowsWithin};
 use tables::block;
 use tables::block::Block;
 use tables::places;
@@ -25,34 +25,42 @@ pub enum Certificate {
     Balanced(Ceiling),
 }
 
+// What the weights of all trains, or of all pairs, come to.
+enum Judged {
+    // Their sums disagree.
+    Disagree,
+    // Their part of E.
+    Part(u64),
+}
+
 // Judges the weights' sums, then gives E and whether the ceiling is reached.
-pub fn certify(block: &[i64], whole: u64, weights: &[u64]) -> Certificate
+pub fn certify(block: &[i64], full: u64, weights: &[u64]) -> Certificate
     requires { ⌜ Study (now block) ⌝ }
-    requires { ⌜ whole ≤ maxWhole ⌝ }
+    requires { ⌜ full ≤ maxFullWeight ⌝ }
     requires { ⌜ WeightsFor (now block) (now weights) ⌝ }
-    ensures { λ r. ⌜ r ≡ certificate (now (block .entry)) (weightsOf (now (block .entry)) whole (now (weights .entry))) ⌝ }
+    ensures { λ r. ⌜ r ≡ certificate (now (block .entry)) (weightsOf (now (block .entry)) full (now (weights .entry))) ⌝ }
 {
-    if !trains_match(block, weights, whole) {
-        return Certificate::Unbalanced;
+    match trains_judged(block, weights, full) {
+        Judged::Disagree => Certificate::Unbalanced,
+        Judged::Part(choices) => match pairs_judged(block, weights) {
+            Judged::Disagree => Certificate::Unbalanced,
+            Judged::Part(entries) => {
+                let floor = full * block::constant(block).number();
+                let weighted = floor + choices + entries;
+                Certificate::Balanced(Ceiling {
+                    reached: weighted == floor,
+                    weighted,
+                })
+            }
+        },
     }
-    if !pairs_match(block, weights) {
-        return Certificate::Unbalanced;
-    }
-    let floor = whole * block::constant(block).number();
-    let choices = trains_weighted(block, weights);
-    let entries = pairs_weighted(block, weights);
-    let weighted = floor + choices + entries;
-    Certificate::Balanced(Ceiling {
-        reached: weighted == floor,
-        weighted,
-    })
 }
 
 // ---- one run of weights
 
 // The sum of `count` weights from `from` on, `step` apart.
 fn run_sum(weights: &[u64], from: usize, step: usize, count: usize) -> u64
-    requires { ⌜ Run (now weights) from step count ⌝ }
+    requires { ⌜ WeightRun (now weights) from step count ⌝ }
     ensures { λ r. ⌜ r ≡ runSum (now (weights .entry)) from step count ⌝ }
 {
     let mut sum = 0;
@@ -66,7 +74,7 @@ fn run_sum(weights: &[u64], from: usize, step: usize, count: usize) -> u64
 
 // The sum of `count` weights from `from` on, each times the figure in parts at its place of the block, from `place` on.
 fn run_weighted(weights: &[u64], from: usize, b: &[i64], place: usize, count: usize) -> u64
-    requires { ⌜ Light (now weights) from (now b) place count ⌝ }
+    requires { ⌜ WeightsWithin (now weights) from (now b) place count ⌝ }
     ensures { λ r. ⌜ r ≡ runWeighted (now (weights .entry)) from (now (b .entry)) place count ⌝ }
 {
     let mut sum = 0;
@@ -90,7 +98,7 @@ fn runs_match(
     choices: usize,
     runs: usize,
 ) -> bool
-    requires { ⌜ Runs (now weights) from apart step count choices runs ⌝ }
+    requires { ⌜ WeightRuns (now weights) from apart step count choices runs ⌝ }
     ensures { λ r. ⌜ r ≡ runsMatch (now (weights .entry)) from apart step count choices runs ⌝ }
 {
     let mut r = 0;
@@ -103,25 +111,33 @@ fn runs_match(
     true
 }
 
-// Whether each train's weights sum to the whole.
-fn trains_match(b: &[i64], weights: &[u64], whole: u64) -> bool
+// ---- the trains
+
+// The choices' part of E, if each train's weights sum to W.
+fn trains_judged(b: &[i64], weights: &[u64], full: u64) -> Judged
     requires { ⌜ Study (now b) ⌝ }
     requires { ⌜ WeightsFor (now b) (now weights) ⌝ }
-    ensures { λ r. ⌜ r ≡ trainsMatch (now (b .entry)) (now (weights .entry)) whole ⌝ }
+    requires { ⌜ full ≤ maxFullWeight ⌝ }
+    ensures { λ r. ⌜ r ≡ trainsJudged (now (b .entry)) (now (weights .entry)) full ⌝ }
 {
     let n = block::trains(b);
+    let mut sum = 0;
     let mut start = 0;
     let mut i = 0;
     while i < n {
         let d = block::size(b, i);
-        if run_sum(weights, start, 1, d) != whole {
-            return false;
+        if run_sum(weights, start, 1, d) != full {
+            return Judged::Disagree;
         }
+        let place = block::choice_place(Block::HELD_CHOICES_FROM, i, 0);
+        sum += run_weighted(weights, start, b, place, d);
         start += d;
         i += 1;
     }
-    true
+    Judged::Part(sum)
 }
+
+// ---- the pairs
 
 // Where the weights of train i begin.
 fn choice_start(b: &[i64], i: usize) -> usize
@@ -164,53 +180,11 @@ fn pair_matches(b: &[i64], weights: &[u64], k: usize, from: usize) -> bool
     runs_match(weights, from, 1, columns, rows, choice_start(b, j), columns)
 }
 
-// Whether the rows and columns of every pair sum to the weights of its trains.
-fn pairs_match(b: &[i64], weights: &[u64]) -> bool
-    requires { ⌜ Study (now b) ⌝ }
-    requires { ⌜ WeightsFor (now b) (now weights) ⌝ }
-    ensures { λ r. ⌜ r ≡ pairsMatch (now (b .entry)) (now (weights .entry)) ⌝ }
-{
-    let m = block::pairs(b);
-    let mut from = choice_start(b, block::trains(b));
-    let mut k = 0;
-    while k < m {
-        if !pair_matches(b, weights, k, from) {
-            return false;
-        }
-        from += entries(b, k);
-        k += 1;
-    }
-    true
-}
-
-// ---- E
-
-// The choices' part of E.
-fn trains_weighted(b: &[i64], weights: &[u64]) -> u64
-    requires { ⌜ Study (now b) ⌝ }
-    requires { ⌜ WeightsFor (now b) (now weights) ⌝ }
-    requires { ⌜ LightRuns (now b) (now weights) ⌝ }
-    ensures { λ r. ⌜ r ≡ trainsWeighted (now (b .entry)) (now (weights .entry)) ⌝ }
-{
-    let n = block::trains(b);
-    let mut sum = 0;
-    let mut start = 0;
-    let mut i = 0;
-    while i < n {
-        let d = block::size(b, i);
-        let place = block::choice_place(Block::HELD_CHOICES_FROM, i, 0);
-        sum += run_weighted(weights, start, b, place, d);
-        start += d;
-        i += 1;
-    }
-    sum
-}
-
 // The part that pair k, whose weights begin at `from`, has in E.
 fn pair_weighted(b: &[i64], weights: &[u64], k: usize, from: usize) -> u64
     requires { ⌜ Study (now b) ⌝ }
     requires { ⌜ WeightsFor (now b) (now weights) ⌝ }
-    requires { ⌜ LightRuns (now b) (now weights) ⌝ }
+    requires { ⌜ RowsWithin (now b) (now weights) k ⌝ }
     requires { ⌜ PairFrom (now b) k from ⌝ }
     ensures { λ r. ⌜ r ≡ pairWeighted (now (b .entry)) (now (weights .entry)) k ⌝ }
 {
@@ -226,21 +200,24 @@ fn pair_weighted(b: &[i64], weights: &[u64], k: usize, from: usize) -> u64
     sum
 }
 
-// The pairs' part of E.
-fn pairs_weighted(b: &[i64], weights: &[u64]) -> u64
+// The pairs' part of E, if the rows and columns of every pair sum to the weights of its trains.
+fn pairs_judged(b: &[i64], weights: &[u64]) -> Judged
     requires { ⌜ Study (now b) ⌝ }
     requires { ⌜ WeightsFor (now b) (now weights) ⌝ }
-    requires { ⌜ LightRuns (now b) (now weights) ⌝ }
-    ensures { λ r. ⌜ r ≡ pairsWeighted (now (b .entry)) (now (weights .entry)) ⌝ }
+    requires { ⌜ TrainsWithin (now b) (now weights) ⌝ }
+    ensures { λ r. ⌜ r ≡ pairsJudged (now (b .entry)) (now (weights .entry)) ⌝ }
 {
     let m = block::pairs(b);
     let mut sum = 0;
     let mut from = choice_start(b, block::trains(b));
     let mut k = 0;
     while k < m {
+        if !pair_matches(b, weights, k, from) {
+            return Judged::Disagree;
+        }
         sum += pair_weighted(b, weights, k, from);
         from += entries(b, k);
         k += 1;
     }
-    sum
+    Judged::Part(sum)
 }

@@ -1,15 +1,12 @@
 -- What a declined call leaves: the block as it was, and no reply but its two bytes, for 17 none.
 use mathlib.Core.Path.{_≡_, refl}
-use mathlib.Core.Bool.{Bool, true, false, cond}
+use mathlib.Core.Bool.{true, false}
 use mathlib.Core.List.{List, []}
 use mathlib.Core.Logic.{_⊎_, inl, inr}
 use Prim.Native.Nat.{ℕ, _<_}
 use native.Mathlib.Omega.{arith}
-use lib.Dec.{ltb}
 use lib.IntN.{ℤ}
-use lib.ListN.{length}
 use Rattle.tables.specs.Block.{trains}
-use Rattle.tables.specs.WellFormed.{wellFormed}
 use Rattle.tables.proofs.Range.{not-both}
 use Rattle.operations.specs.declared.outcome.Outcome.{Outcome}
 use Rattle.operations.specs.declared.outcome.Outcome.the-variants.{Done, CostAbove as cost-above, PartsOutside as parts-outside}
@@ -25,15 +22,12 @@ use Rattle.lines.specs.declared.refusal.Refusal.{Refusal}
 use Rattle.lines.specs.declared.refusal.Refusal.the-variants.{CostAbove, PartsOutside, Sums, Malformed}
 use Rattle.lines.specs.declared.request.Request.{Request}
 use Rattle.lines.specs.declared.request.Request.the-variants.{Load, Add, Shift, Tighten, Certify, Search}
-use Rattle.lines.specs.declared.request.Line.{Line}
-use Rattle.lines.specs.declared.request.Line.the-variants.{Asked, Refused}
 use Rattle.lines.specs.Layout.{moveWidth, weightWidth}
 use Rattle.lines.specs.Numbers.{numbersOf}
-use Rattle.reader.specs.Reading.{lineOf}
 use Rattle.search.specs.Answer.{searchAnswer}
 use Rattle.replies.specs.Replies.{refusalReply}
-use Rattle.replies.specs.Wrote.{minBuffer}
-use Rattle.service.specs.Answer.{Answer, answered, declined, operated, certified, requested, lineAnswer, answer}
+use Rattle.service.specs.Answer.{Answer, declined, operated, certified, requested, answer}
+use Rattle.service.proofs.AnswerCases.{answer-cases}
 use Rattle.claims.specs.Ledger.{accepted}
 use Rattle.claims.proofs.ReadBack.{bound-accepted, certify-accepted, search-accepted}
 
@@ -58,9 +52,9 @@ either-operated kind Done old new h = inl (bound-accepted kind new h)
 either-operated kind cost-above old new h = either-declined old CostAbove
 either-operated kind parts-outside old new h = either-declined old PartsOutside
 
-either-certified : (whole : ℕ) (c : Certificate) (b : List ℤ) → Either b (certified whole c b)
-either-certified whole Unbalanced b = either-declined b Sums
-either-certified whole (Balanced c) b = inl (certify-accepted whole c)
+either-certified : (fullWeight : ℕ) (c : Certificate) (b : List ℤ) → Either b (certified fullWeight c b)
+either-certified fullWeight Unbalanced b = either-declined b Sums
+either-certified fullWeight (Balanced c) b = inl (certify-accepted fullWeight c)
 
 module _ (l : List ℕ) (b : List ℤ) where
   either-requested : (q : Request) → Either b (requested q l b)
@@ -72,21 +66,12 @@ module _ (l : List ℕ) (b : List ℤ) where
       let moves = signedRunOf l (q .moves .at) moveWidth (q .moves .count) in
       either-operated 3 (shiftOutcome lifts moves b) b (shiftBlock lifts moves b) (omega arith)
   either-requested Tighten = either-operated 4 (tightenOutcome b) b (tightenBlock b) (omega arith)
-  either-requested (Certify q) = either-certified (q .whole) (certificate b (weightsOf b (q .whole) (runOf l (q .weights .at) weightWidth (q .weights .count)))) b
+  either-requested (Certify q) = either-certified (q .full) (certificate b (weightsOf b (q .full) (runOf l (q .weights .at) weightWidth (q .weights .count)))) b
   either-requested (Search q) = inl (search-accepted (trains b) (searchAnswer b (q .budget)))
 
-  either-line : (x : Line) → Either b (lineAnswer x l b)
-  either-line (Asked q) = either-requested q
-  either-line (Refused r) = either-declined b r
-
   either-answer : (buffer : List ℕ) → Either b (answer l b buffer)
-  unfolding answer
-  either-answer buffer = go (ltb (length buffer) minBuffer) (wellFormed b)
-    where
-      go : (t u : Bool) → Either b (cond t (answered b []) (cond u (lineAnswer (lineOf l b) l b) (declined b Malformed)))
-      go true u = inr (record { block = refl; reply = inl refl })
-      go false true = either-line (lineOf l b)
-      go false false = either-declined b Malformed
+  either-answer buffer =
+      answer-cases l b buffer (λ a. Either b a) (λ h. inr (record { block = refl; reply = inl refl })) (λ e. either-declined b Malformed) (λ r e. either-declined b r) (λ q a. either-requested q)
 
   -- a call that is not accepted leaves the block as it was, and writes nothing but its two bytes
   pub declined-leaves : (buffer : List ℕ) → accepted (answer l b buffer .reply) ≡ false → Declines b (answer l b buffer)

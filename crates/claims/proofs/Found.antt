@@ -21,7 +21,7 @@ use Rattle.claims.proofs.Keeps.{Keeps, plan-in, plan-out, cost-is, tota
 
 module _ {g : Ledger} {b : List ℤ} (k : Keeps g b) where
   -- 'W × the constant of every rival is at most E'
-  pub ceiling-holds : (w : Weights) {c : Ceiling} → certificate b w ≡ Balanced c → (r : Rival) → IsRival (g .shape) (scaledCost g) r → ConstantAtMost (w .whole) (c .weighted) r
+  pub ceiling-holds : (w : Weights) {c : Ceiling} → certificate b w ≡ Balanced c → (r : Rival) → IsRival (g .shape) (scaledCost g) r → ConstantAtMost (w .fullWeight) (c .weighted) r
   unfolding shapeOf
   ceiling-holds w e r is =
       certify-rival w (k .study) e r

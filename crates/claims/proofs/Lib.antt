@@ -7,6 +7,8 @@ pub mod Keeps
 pub mod Kept
 pub mod Found
 pub mod Steps
+pub mod After
 pub mod Demand
 pub mod Seen
+pub mod Inputs
 pub mod Uses

@@ -22,23 +22,21 @@ use Rattle.lines.specs.Refusals.{refusalNumber}
 use Rattle.rows.specs.Added.{choicesOf}
 use Rattle.search.specs.declared.answer.Found.{Found}
 use Rattle.replies.specs.Replies.{refusalByte, refusalReply, replyKind, figureWidth, flag, boundOf, boundReply, certifyReply, shownCost, shownChoice, searchReply}
-use Rattle.claims.specs.Ledger.{Entry, Ledger, accepted, costOf}
+use Rattle.service.specs.Calls.{exchange}
+use Rattle.claims.specs.Ledger.{Ledger, accepted, costOf}
 use Rattle.claims.specs.Claims.{PlanOf, kindShown, DeclinedAs, outside, malformed, flagShown, reaches, costShown, planShown, showsPlan, scaledCost, AtLine, AddOrTighten, AtCall}
-use Rattle.claims.proofs.ReadBack.{refusal-number, bound-kind, bound-shown, certify-kind, certify-flag, certify-weighted, certify-whole, search-kind, search-ended, search-cost, search-plan}
-
-abbrev pub entry : List ℕ → List ℕ → Entry
-entry l reply = record { line = l; reply = reply }
+use Rattle.claims.proofs.ReadBack.{refusal-number, bound-kind, bound-shown, certify-kind, certify-flag, certify-weighted, certify-full-weight, search-kind, search-ended, search-cost, search-plan}
 
 -- ---- a call, from its line
 
 module _ (g : Ledger) (b : List ℤ) (l reply : List ℕ) where
   -- a reply that is not accepted, which declines with another number
-  pub at-refused : accepted reply ≡ false → (AddOrTighten l → DeclinedAs outside reply → ⊥) → (DeclinedAs malformed reply → ⊥) → AtCall g b (entry l reply)
+  pub at-refused : accepted reply ≡ false → (AddOrTighten l → DeclinedAs outside reply → ⊥) → (DeclinedAs malformed reply → ⊥) → AtCall g b (exchange l reply)
   at-refused e n m = record { line = λ a. absurd (not-both a e); reached = λ a k. absurd (not-both a e); never-outside = n; never-malformed = m }
 
   -- a reply that shows a kind below FF is no refusal
-  pub at-accepted : kindShown reply < refusalByte → AtLine g (entry l reply)
-      → (kindShown reply ≡ replyKind 5 → flagShown reply ≡ flag (reaches b reply)) → AtCall g b (entry l reply)
+  pub at-accepted : kindShown reply < refusalByte → AtLine g (exchange l reply)
+      → (kindShown reply ≡ replyKind 5 → flagShown reply ≡ flag (reaches b reply)) → AtCall g b (exchange l reply)
   unfolding DeclinedAs
   at-accepted h c f = record { line = λ _. c; reached = λ _. f; never-outside = λ _ d. omega (arith, d .0); never-malformed = λ d. omega (arith, d .0) }
 
@@ -56,13 +54,13 @@ empty-shows n d = omega (arith, d .0)
 
 -- 81 to 84
 pub at-bound : (g : Ledger) (old : List ℤ) (l : List ℕ) (kind : ℕ) (b : List ℤ) → kindOf l ≡ kind → kind ≤ 4 → boundOf b < 256 ^ figureWidth
-    → ((x : ℕ → ℕ) → PlanOf g x → boundOf b ≤ costOf g x) → AtCall g old (entry l (boundReply kind b))
+    → ((x : ℕ → ℕ) → PlanOf g x → boundOf b ≤ costOf g x) → AtCall g old (exchange l (boundReply kind b))
 at-bound g old l kind b m h q low =
     let k = bound-kind kind b (omega arith) in
-    let line : AtLine g (entry l (boundReply kind b)) = record {
+    let line : AtLine g (exchange l (boundReply kind b)) = record {
       kind = omega (arith, k, m);
       bound = λ _ x p. rw (bound-shown kind b (omega arith) q) (low x p);
-      whole = λ e. absurd (omega (arith, k));
+      fullWeight = λ e. absurd (omega (arith, k));
       ceiling = λ e r is. absurd (omega (arith, k));
       ended = λ e s. absurd (omega (arith, k));
       shown = λ e s. absurd (omega (arith, k));
@@ -71,21 +69,21 @@ at-bound g old l kind b m h q low =
     at-accepted g old l (boundReply kind b) (omega (arith, k)) line (λ e. absurd (omega (arith, k)))
 
 -- 85
-pub at-ceiling : (g : Ledger) (b : List ℤ) (l : List ℕ) (whole : ℕ) (c : Ceiling) → kindOf l ≡ 5 → 0 < whole → whole < 256 ^ 3 → c .weighted < 256 ^ 8
-    → c .reached ≡ eqb (c .weighted) (whole * constant b)
-    → ((r : Rival) → IsRival (g .shape) (scaledCost g) r → ConstantAtMost whole (c .weighted) r) → AtCall g b (entry l (certifyReply whole c))
-at-ceiling g b l whole c m z h q e holds =
-    let k = certify-kind whole c in
-    let line : AtLine g (entry l (certifyReply whole c)) = record {
+pub at-ceiling : (g : Ledger) (b : List ℤ) (l : List ℕ) (fullWeight : ℕ) (c : Ceiling) → kindOf l ≡ 5 → 0 < fullWeight → fullWeight < 256 ^ 3 → c .weighted < 256 ^ 8
+    → c .reached ≡ eqb (c .weighted) (fullWeight * constant b)
+    → ((r : Rival) → IsRival (g .shape) (scaledCost g) r → ConstantAtMost fullWeight (c .weighted) r) → AtCall g b (exchange l (certifyReply fullWeight c))
+at-ceiling g b l fullWeight c m z h q e holds =
+    let k = certify-kind fullWeight c in
+    let line : AtLine g (exchange l (certifyReply fullWeight c)) = record {
       kind = omega (arith, k, m);
       bound = λ e x p. absurd (omega (arith, k));
-      whole = λ _. omega (arith, certify-whole whole c h, z);
-      ceiling = λ _ r is. rw (certify-whole whole c h, certify-weighted whole c q) (holds r is);
+      fullWeight = λ _. omega (arith, certify-full-weight fullWeight c h, z);
+      ceiling = λ _ r is. rw (certify-full-weight fullWeight c h, certify-weighted fullWeight c q) (holds r is);
       ended = λ e s. absurd (omega (arith, k));
       shown = λ e s. absurd (omega (arith, k));
       least = λ e s x p. absurd (omega (arith, k));
     } in
-    at-accepted g b l (certifyReply whole c) (omega (arith, k)) line (λ _. rw (certify-whole whole c h, certify-weighted whole c q) (certify-flag whole c ∙ ap flag e))
+    at-accepted g b l (certifyReply fullWeight c) (omega (arith, k)) line (λ _. rw (certify-full-weight fullWeight c h, certify-weighted fullWeight c q) (certify-flag fullWeight c ∙ ap flag e))
 
 -- plans that agree on every train cost the same
 plan-cong : (s : Shape) (t : Costs) (x y : ℕ → ℕ) → ((i : ℕ) → i < s .trains → x i ≡ y i)
@@ -149,13 +147,13 @@ module _ (g : Ledger) (l : List ℕ) (n : ℕ) (f : Found) (r : Right g n f) whe
       go true e = e
       go false e = absurd (not-both s (unknown-hides e))
 
-  pub at-search : (b : List ℤ) → kindOf l ≡ 6 → AtCall g b (entry l (searchReply n f))
+  pub at-search : (b : List ℤ) → kindOf l ≡ 6 → AtCall g b (exchange l (searchReply n f))
   at-search b m =
       let k = search-kind n f in
-      let line : AtLine g (entry l (searchReply n f)) = record {
+      let line : AtLine g (exchange l (searchReply n f)) = record {
         kind = omega (arith, k, m);
         bound = λ e x p. absurd (omega (arith, k));
-        whole = λ e. absurd (omega (arith, k));
+        fullWeight = λ e. absurd (omega (arith, k));
         ceiling = λ e d is. absurd (omega (arith, k));
         ended = λ e s. known-shows (r .ended (sym (search-ended n f) ∙ s) .0);
         shown = λ e s. (known-plan (shows-known s), known-cost (shows-known s));

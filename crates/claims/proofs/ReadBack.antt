@@ -14,12 +14,12 @@ use Rattle.certificates.specs.declared.certify.Ceiling.{Ceiling}
 use Rattle.frames.specs.Fields.{field, fieldDigits}
 use Rattle.frames.proofs.RoundTrip.{field-after, digits-append, digits-length, field-here}
 use Rattle.lines.specs.declared.refusal.Refusal.{Refusal}
-use Rattle.lines.specs.declared.refusal.Refusal.the-variants.{Characters, TooLong, NoKind, FreshBlock, Fields, Range, Cost, Pair, Absent, CostAbove, Move, PartsOutside, Whole, Sums, Budget, Malformed}
+use Rattle.lines.specs.declared.refusal.Refusal.the-variants.{Characters, TooLong, NoKind, FreshBlock, Fields, Range, Cost, Pair, Absent, CostAbove, Move, PartsOutside, FullWeight, Sums, Budget, Malformed}
 use Rattle.lines.specs.Refusals.{refusalNumber}
 use Rattle.search.specs.declared.answer.Found.{Found}
 use Rattle.replies.specs.Replies.{refusalByte, refusalReply, replyKind, figureWidth, boundOf, boundReply, flag, certifyReply, planDigits, shownCost, shownChoice, searchReply}
 use Rattle.claims.specs.Ledger.{accepted}
-use Rattle.claims.specs.Claims.{kindShown, numberShown, boundShown, flagShown, weightedShown, wholeShown, saysEnded, costShown, planShown}
+use Rattle.claims.specs.Claims.{kindShown, numberShown, boundShown, flagShown, weightedShown, fullWeightShown, saysEnded, costShown, planShown}
 
 -- ---- one field after others
 
@@ -70,7 +70,7 @@ number-low Absent = omega arith
 number-low CostAbove = omega arith
 number-low Move = omega arith
 number-low PartsOutside = omega arith
-number-low Whole = omega arith
+number-low FullWeight = omega arith
 number-low Sums = omega arith
 number-low Budget = omega arith
 number-low Malformed = omega arith
@@ -107,36 +107,36 @@ flag-low : (t : Bool) → flag t < 256
 flag-low true = omega arith
 flag-low false = omega arith
 
-module _ (whole : ℕ) (c : Ceiling) where
+module _ (fullWeight : ℕ) (c : Ceiling) where
   abbrev pub certifyTail : List ℕ
-  certifyTail = fieldDigits 1 (flag (c .reached)) (fieldDigits 8 (c .weighted) (fieldDigits 3 whole []))
+  certifyTail = fieldDigits 1 (flag (c .reached)) (fieldDigits 8 (c .weighted) (fieldDigits 3 fullWeight []))
 
-  pub certify-kind : kindShown (certifyReply whole c) ≡ replyKind 5
+  pub certify-kind : kindShown (certifyReply fullWeight c) ≡ replyKind 5
   unfolding certifyReply
   certify-kind = field-here 1 (replyKind 5) certifyTail (omega arith)
 
-  pub certify-accepted : accepted (certifyReply whole c) ≡ true
+  pub certify-accepted : accepted (certifyReply fullWeight c) ≡ true
   unfolding certifyReply
   certify-accepted = accepted-as (replyKind 5) certifyTail (omega arith)
 
-  pub certify-flag : flagShown (certifyReply whole c) ≡ flag (c .reached)
+  pub certify-flag : flagShown (certifyReply fullWeight c) ≡ flag (c .reached)
   unfolding certifyReply
-  certify-flag = second-byte (replyKind 5) (flag (c .reached)) (fieldDigits 8 (c .weighted) (fieldDigits 3 whole [])) (flag-low (c .reached))
+  certify-flag = second-byte (replyKind 5) (flag (c .reached)) (fieldDigits 8 (c .weighted) (fieldDigits 3 fullWeight [])) (flag-low (c .reached))
 
-  pub certify-weighted : c .weighted < 256 ^ 8 → weightedShown (certifyReply whole c) ≡ c .weighted
+  pub certify-weighted : c .weighted < 256 ^ 8 → weightedShown (certifyReply fullWeight c) ≡ c .weighted
   unfolding certifyReply
   certify-weighted h =
       skip 1 (replyKind 5) certifyTail 1 8
-      ∙ skip 1 (flag (c .reached)) (fieldDigits 8 (c .weighted) (fieldDigits 3 whole [])) 0 8
-      ∙ field-here 8 (c .weighted) (fieldDigits 3 whole []) h
+      ∙ skip 1 (flag (c .reached)) (fieldDigits 8 (c .weighted) (fieldDigits 3 fullWeight [])) 0 8
+      ∙ field-here 8 (c .weighted) (fieldDigits 3 fullWeight []) h
 
-  pub certify-whole : whole < 256 ^ 3 → wholeShown (certifyReply whole c) ≡ whole
+  pub certify-full-weight : fullWeight < 256 ^ 3 → fullWeightShown (certifyReply fullWeight c) ≡ fullWeight
   unfolding certifyReply
-  certify-whole h =
+  certify-full-weight h =
       skip 1 (replyKind 5) certifyTail 9 3
-      ∙ skip 1 (flag (c .reached)) (fieldDigits 8 (c .weighted) (fieldDigits 3 whole [])) 8 3
-      ∙ skip 8 (c .weighted) (fieldDigits 3 whole []) 0 3
-      ∙ field-here 3 whole [] h
+      ∙ skip 1 (flag (c .reached)) (fieldDigits 8 (c .weighted) (fieldDigits 3 fullWeight [])) 8 3
+      ∙ skip 8 (c .weighted) (fieldDigits 3 fullWeight []) 0 3
+      ∙ field-here 3 fullWeight [] h
 
 -- ---- 86
 

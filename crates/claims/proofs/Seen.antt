@@ -6,8 +6,8 @@ use Rattle.tables.specs.WellFormed.{freshBlock}
 use Rattle.replies.proofs.Writing.{wrote-taken}
 use Rattle.service.specs.Answer.{answer}
 use Rattle.service.specs.Wrote.{Answers}
-use Rattle.claims.specs.Ledger.{Call, blocks, entries, lastBlock}
-use Rattle.claims.specs.Seen.{Seen, Chained, seenBlocks, seenEntries, seenLast, SeenDemand}
+use Rattle.service.specs.Calls.{Call, lastBlock, blocks, exchanges}
+use Rattle.claims.specs.Seen.{Seen, Chained, seenBlocks, seenExchanges, seenLast, SeenDemand}
 use Rattle.claims.proofs.Demand.{demand}
 
 callsOf : List Seen → List Call
@@ -19,11 +19,11 @@ unfolding callsOf Chained seenBlocks blocks
 seen-blocks b [] c = refl
 seen-blocks b (s ∷ ss) c = rw (← c .0, seen-blocks (s .block-after) ss (c .2), c .1 .block)
 
-seen-entries : (b : List ℤ) (ss : List Seen) → Chained b ss → seenEntries ss ≡ entries b (callsOf ss)
-unfolding callsOf Chained seenEntries entries
-seen-entries b [] c = refl
-seen-entries b (s ∷ ss) c =
-    rw (← c .0, wrote-taken (c .1 .reply), seen-entries (s .block-after) ss (c .2), c .1 .block)
+seen-exchanges : (b : List ℤ) (ss : List Seen) → Chained b ss → seenExchanges ss ≡ exchanges b (callsOf ss)
+unfolding callsOf Chained seenExchanges exchanges
+seen-exchanges b [] c = refl
+seen-exchanges b (s ∷ ss) c =
+    rw (← c .0, wrote-taken (c .1 .reply), seen-exchanges (s .block-after) ss (c .2), c .1 .block)
 
 seen-last : (b : List ℤ) (ss : List Seen) → Chained b ss → seenLast b ss ≡ lastBlock b (callsOf ss)
 unfolding callsOf Chained seenLast lastBlock
@@ -38,4 +38,4 @@ chained-more s ss a c = (refl, a, c)
 
 -- demand 3 of every such list from a fresh block
 pub seen-demand : (ss : List Seen) → Chained freshBlock ss → SeenDemand ss
-seen-demand ss c = rw (seen-blocks freshBlock ss c, seen-entries freshBlock ss c, seen-last freshBlock ss c) (demand (callsOf ss))
+seen-demand ss c = rw (seen-blocks freshBlock ss c, seen-exchanges freshBlock ss c, seen-last freshBlock ss c) (demand (callsOf ss))

@@ -2,16 +2,15 @@
 -- has document 01's three equations by them. 12 is answered exactly where one of these numbers would be below 0 or above L.
 use mathlib.Core.Path.{_≡_, refl, ap, _∙_}
 use mathlib.Core.Bool.{Bool, true, false, cond}
-use mathlib.Core.List.{List, []}
+use mathlib.Core.List.{List}
 use mathlib.Core.Logic.{_↔_}
 use Prim.Native.Nat.{ℕ, _<_}
 use native.Mathlib.Omega.{arith}
-use lib.Dec.{ltb}
 use lib.IntN.{ℤ, pos}
 use lib.ListN.{length}
-use borrow.Author.Tests.{le-ltb, ltb-false}
+use borrow.Author.Tests.{le-ltb}
 use Rattle.tables.specs.Block.{constantPlace, heldChoicePlace, heldEntryPlace, at, trains, pairs, size, first, second}
-use Rattle.tables.specs.WellFormed.{holdsStudy, wellFormed, Study}
+use Rattle.tables.specs.WellFormed.{holdsStudy, Study}
 use Rattle.tables.proofs.Range.{not-both}
 use Rattle.tables.proofs.Study.{study-of}
 use Rattle.operations.specs.declared.outcome.Outcome.{Outcome}
@@ -26,18 +25,18 @@ use Rattle.lines.specs.declared.refusal.Refusal.the-variants.{PartsOutside, Mal
 use Rattle.lines.specs.declared.request.Shift as declared-shift
 use Rattle.lines.specs.declared.request.Request.{Request}
 use Rattle.lines.specs.declared.request.Request.the-variants.{Load, Add, Shift, Tighten, Certify, Search}
-use Rattle.lines.specs.declared.request.Line.{Line}
-use Rattle.lines.specs.declared.request.Line.the-variants.{Asked, Refused}
+use Rattle.lines.specs.Kinds.{kindNumber, requestKind}
 use Rattle.lines.specs.Layout.{kindOf, moveWidth, liftsAt, movesAt, shiftLift, shiftMove}
-use Rattle.reader.specs.Reading.{moveCount, lineOf}
+use Rattle.reader.specs.Reading.{moveCount}
 use Rattle.reader.proofs.LineAccepted.{Makes, line-makes}
-use Rattle.reader.proofs.LineKind.{requestKind, line-kind}
+use Rattle.reader.proofs.LineKind.{line-kind}
 use Rattle.replies.specs.Replies.{refusalReply}
 use Rattle.replies.specs.Wrote.{minBuffer}
-use Rattle.service.specs.Answer.{answered, declined, operated, requested, lineAnswer, answer}
+use Rattle.service.specs.Answer.{operated, requested, answer}
 use Rattle.service.specs.Wrote.{Asks}
+use Rattle.service.proofs.AnswerCases.{answer-cases}
 use Rattle.claims.specs.Ledger.{accepted}
-use Rattle.claims.proofs.ReadBack.{refusal-refused, bound-accepted}
+use Rattle.claims.proofs.ReadBack.{empty-refused, refusal-refused, bound-accepted}
 
 -- where a shift line's own numbers lead
 abbrev pub lineEnds : List ℕ → List ℤ → Ends
@@ -51,15 +50,12 @@ pub record Asking (l : List ℕ) (b : List ℤ) (buffer : List ℕ) : Type 0 whe
 
 -- an accepted line makes one
 pub accepted-asks : (l : List ℕ) (b : List ℤ) (buffer : List ℕ) → accepted (answer l b buffer .reply) ≡ true → Asking l b buffer
-unfolding answer accepted
-accepted-asks l b buffer = go (ltb (length buffer) minBuffer) (wellFormed b) (lineOf l b) refl refl refl
-  where
-    go : (t u : Bool) (x : Line) → ltb (length buffer) minBuffer ≡ t → wellFormed b ≡ u → lineOf l b ≡ x
-        → accepted (cond t (answered b []) (cond u (lineAnswer x l b) (declined b Malformed)) .reply) ≡ true → Asking l b buffer
-    go true u x e f g y = let z : _≡_ {A = ℕ} 0 1 = cc in absurd (omega arith)
-    go false false x e f g y = absurd (not-both y (refusal-refused Malformed))
-    go false true (Asked q) e f g y = record { request = q; asks = record { room = ltb-false (length buffer) minBuffer e; right = f; asked = g } }
-    go false true (Refused r) e f g y = absurd (not-both y (refusal-refused r))
+accepted-asks l b buffer =
+    answer-cases l b buffer (λ a. accepted (a .reply) ≡ true → Asking l b buffer)
+    (λ h y. absurd (not-both y empty-refused))
+    (λ e y. absurd (not-both y (refusal-refused Malformed)))
+    (λ r e y. absurd (not-both y (refusal-refused r)))
+    (λ q a y. record { request = q; asks = a })
 
 -- ---- a line that asks for a shift
 
@@ -112,7 +108,7 @@ pub shift-line : (l : List ℕ) (b : List ℤ) (buffer : List ℕ) → kindOf l 
     → SameEnds b (endsOf (answer l b buffer .block)) (lineEnds l b)
 shift-line l b buffer k y = let w = accepted-asks l b buffer y in go (w .request) (w .asks) (line-kind l b (w .request) (w .asks .asked))
   where
-    go : (q : Request) → Asks l b q buffer → kindOf l ≡ requestKind q → SameEnds b (endsOf (answer l b buffer .block)) (lineEnds l b)
+    go : (q : Request) → Asks l b q buffer → kindOf l ≡ kindNumber (requestKind q) → SameEnds b (endsOf (answer l b buffer .block)) (lineEnds l b)
     go (Load q) a e = absurd (omega arith)
     go (Add q) a e = absurd (omega arith)
     go (Shift q) a e = asked-ends l b buffer q a y

@@ -6,12 +6,10 @@ use mathlib.Core.Logic.{inl, inr, dite}
 use Prim.Native.Nat.{ℕ, _+_, _*_, _<_, _≤_, _^_}
 use native.Mathlib.Decide.{ℕ-discrete, decLt}
 use native.Mathlib.Omega.{arith}
-use lib.Dec.{ltb}
 use lib.IntN.{ℤ}
-use lib.ListN.{length}
 use borrow.Author.Tests.{eq-eqb, ne-eqb}
 use Rattle.tables.specs.Block.{maxTrains, maxPairs, maxCost, trains, pairs, size, first, second, loadedChoice}
-use Rattle.tables.specs.Ranges.{maxWhole}
+use Rattle.tables.specs.Ranges.{maxFullWeight}
 use Rattle.tables.specs.WellFormed.{holdsStudy, Study}
 use Rattle.tables.specs.Plans.{IsPlan, shapeOf, loadedCosts, loadedTotal}
 use Rattle.tables.proofs.Plans.{same-shape-total}
@@ -35,10 +33,10 @@ use Rattle.lines.specs.declared.refusal.Refusal.{Refusal}
 use Rattle.lines.specs.declared.refusal.Refusal.the-variants.{CostAbove, PartsOutside, Sums}
 use Rattle.lines.specs.declared.request.Request.{Request}
 use Rattle.lines.specs.declared.request.Request.the-variants.{Load, Add, Shift, Tighten, Certify, Search}
-use Rattle.lines.specs.declared.request.Line.{Line}
-use Rattle.lines.specs.declared.request.Line.the-variants.{Asked, Refused}
+use Rattle.lines.specs.declared.request.Line.the-variants.{Refused}
 use Rattle.lines.specs.declared.request.Verdict.the-variants.{Fine}
-use Rattle.lines.specs.Layout.{kindOf, moveWidth, weightWidth, weightsAt, liftsAt, movesAt, addTrain, addChoice, addPoints, certifyWhole, searchBudget}
+use Rattle.lines.specs.Kinds.{kindNumber, requestKind}
+use Rattle.lines.specs.Layout.{kindOf, moveWidth, weightWidth, weightsAt, liftsAt, movesAt, addTrain, addChoice, addPoints, certifyFullWeight, searchBudget}
 use Rattle.lines.specs.Numbers.{numbersOf}
 use Rattle.lines.specs.Refusals.{refusalNumber}
 use Rattle.lines.specs.Verdicts.{loadVerdict, loadRequest}
@@ -46,37 +44,38 @@ use Rattle.lines.proofs.LoadRange.{load-in-range}
 use Rattle.reader.specs.Reading.{addRequest, moveCount, weightCount, shiftRequest, certifyRequest, searchRequest, lineOf}
 use Rattle.reader.proofs.Accepted.{add-fine, certify-fine}
 use Rattle.reader.proofs.LineAccepted.{Makes, line-makes, add-there}
-use Rattle.reader.proofs.LineKind.{requestKind, line-kind}
+use Rattle.reader.proofs.LineKind.{line-kind}
 use Rattle.reader.proofs.LineRefused.{ofReading, line-refused}
 use Rattle.search.specs.Answer.{searchAnswer}
 use Rattle.search.proofs.Theorems.{search-entries}
 use Rattle.replies.specs.Replies.{refusalReply, figureWidth, boundOf, boundReply, certifyReply, searchReply}
-use Rattle.replies.specs.Wrote.{minBuffer}
-use Rattle.service.specs.Answer.{Answer, answered, declined, operated, certified, requested, lineAnswer, answer}
+use Rattle.service.specs.Answer.{Answer, answered, declined, operated, certified, requested, answer}
+use Rattle.service.specs.Calls.{exchange}
+use Rattle.service.proofs.AnswerCases.{answer-cases}
 use Rattle.claims.specs.Ledger.{Ledger, accepted, loadedLedger, addedLedger, fed}
 use Rattle.claims.specs.Claims.{outside, malformed, AddOrTighten, AtCall}
 use Rattle.claims.proofs.Found.{ceiling-holds, known-plan, known-low, ended-least}
 use Rattle.claims.proofs.Keeps.{Keeps, plan-out, cost-is, bound-low, total-most, entry-most, loaded-total-most, scaled-most, held-total-most}
 use Rattle.claims.proofs.Kept.{load-keeps, rewritten-keeps, add-scaled, add-keeps}
-use Rattle.claims.proofs.Lines.{entry, at-refused, other-refusal, empty-shows, at-bound, at-ceiling, Right, at-search}
+use Rattle.claims.proofs.Lines.{at-refused, other-refusal, empty-shows, at-bound, at-ceiling, Right, at-search}
 use Rattle.claims.proofs.ReadBack.{empty-refused, refusal-refused, bound-accepted, certify-accepted, search-accepted}
 
 -- ---- what the ledger makes of a line
 
 module _ (g : Ledger) (l reply : List ℕ) where
-  pub fed-refused : accepted reply ≡ false → fed (entry l reply) g ≡ g
+  pub fed-refused : accepted reply ≡ false → fed (exchange l reply) g ≡ g
   unfolding fed
   fed-refused e = rw e
 
-  pub fed-load : accepted reply ≡ true → kindOf l ≡ 1 → fed (entry l reply) g ≡ loadedLedger l
+  pub fed-load : accepted reply ≡ true → kindOf l ≡ 1 → fed (exchange l reply) g ≡ loadedLedger l
   unfolding fed
   fed-load e k = rw (e, eq-eqb (kindOf l) 1 k)
 
-  pub fed-add : accepted reply ≡ true → kindOf l ≡ 2 → fed (entry l reply) g ≡ addedLedger l g
+  pub fed-add : accepted reply ≡ true → kindOf l ≡ 2 → fed (exchange l reply) g ≡ addedLedger l g
   unfolding fed
   fed-add e k = rw (e, ne-eqb (kindOf l) 1 (λ q. omega arith), eq-eqb (kindOf l) 2 k)
 
-  pub fed-other : accepted reply ≡ true → 3 ≤ kindOf l → fed (entry l reply) g ≡ g
+  pub fed-other : accepted reply ≡ true → 3 ≤ kindOf l → fed (exchange l reply) g ≡ g
   unfolding fed
   fed-other e k = rw (e, ne-eqb (kindOf l) 1 (λ q. omega arith), ne-eqb (kindOf l) 2 (λ q. omega arith))
 
@@ -84,11 +83,11 @@ module _ (g : Ledger) (l reply : List ℕ) where
 
 -- of a call that had the block b
 pub record Good (g : Ledger) (b : List ℤ) (l : List ℕ) (a : Answer) : Type 0 where
-  pub keeps : Keeps (fed (entry l (a .reply)) g) (a .block)
-  pub call : AtCall (fed (entry l (a .reply)) g) b (entry l (a .reply))
+  pub keeps : Keeps (fed (exchange l (a .reply)) g) (a .block)
+  pub call : AtCall (fed (exchange l (a .reply)) g) b (exchange l (a .reply))
 
 -- by the ledger h that the line leaves
-good-by : (g h : Ledger) (b : List ℤ) (l : List ℕ) (a : Answer) → fed (entry l (a .reply)) g ≡ h → Keeps h (a .block) → AtCall h b (entry l (a .reply)) → Good g b l a
+good-by : (g h : Ledger) (b : List ℤ) (l : List ℕ) (a : Answer) → fed (exchange l (a .reply)) g ≡ h → Keeps h (a .block) → AtCall h b (exchange l (a .reply)) → Good g b l a
 good-by g h b l a e k c = record { keeps = rw e k; call = rw e c }
 
 -- ---- declined calls
@@ -106,11 +105,11 @@ line-allowed l b r e = record { not-outside = λ w. apart outside refl; not-malf
     apart n h q = not-both (line-refused l b r e) (ap ofReading q ∙ h)
 
 module _ (g : Ledger) (b : List ℤ) (l : List ℕ) where
-  pub declined-call : (r : Refusal) → Allowed l r → AtCall g b (entry l (refusalReply r))
+  pub declined-call : (r : Refusal) → Allowed l r → AtCall g b (exchange l (refusalReply r))
   declined-call r w =
       at-refused g b l (refusalReply r) (refusal-refused r) (λ u. other-refusal r outside (w .not-outside u)) (other-refusal r malformed (w .not-malformed))
 
-  pub empty-call : AtCall g b (entry l [])
+  pub empty-call : AtCall g b (exchange l [])
   empty-call = at-refused g b l [] empty-refused (λ u. empty-shows outside) (empty-shows malformed)
 
 -- they leave both block and ledger
@@ -130,7 +129,7 @@ bound-fits {g} {b} k =
     let p = zero-plan (k .study) in
     omega (arith, bound-low k (λ i. 0) (plan-out k (λ i. 0) p), cost-is k (λ i. 0) p, loaded-total-most (k .study) (λ i. 0) p)
 
-good-bound : (g h : Ledger) (old : List ℤ) (l : List ℕ) (kind : ℕ) (b : List ℤ) → kindOf l ≡ kind → kind ≤ 4 → fed (entry l (boundReply kind b)) g ≡ h → Keeps h b
+good-bound : (g h : Ledger) (old : List ℤ) (l : List ℕ) (kind : ℕ) (b : List ℤ) → kindOf l ≡ kind → kind ≤ 4 → fed (exchange l (boundReply kind b)) g ≡ h → Keeps h b
     → Good g old l (answered b (boundReply kind b))
 good-bound g h old l kind b m q e k = good-by g h old l (answered b (boundReply kind b)) e k (at-bound h old l kind b m q (bound-fits k) (bound-low k))
 
@@ -229,19 +228,19 @@ module _ {g : Ledger} {b : List ℤ} (k : Keeps g b) (l : List ℕ) where
 
   -- ---- certificates and searches change nothing
 
-  good-certify : kindOf l ≡ 5 → (1 ≤ certifyWhole l) × (certifyWhole l ≤ maxWhole) → Good g b l (requested (certifyRequest l (weightCount b)) l b)
+  good-certify : kindOf l ≡ 5 → (1 ≤ certifyFullWeight l) × (certifyFullWeight l ≤ maxFullWeight) → Good g b l (requested (certifyRequest l (weightCount b)) l b)
   unfolding requested
-  good-certify e low = go (certificate b (weightsOf b (certifyWhole l) weights)) refl
+  good-certify e low = go (certificate b (weightsOf b (certifyFullWeight l) weights)) refl
     where
       weights : List ℕ
       weights = runOf l weightsAt weightWidth (weightCount b)
 
-      go : (c : Certificate) → certificate b (weightsOf b (certifyWhole l) weights) ≡ c → Good g b l (certified (certifyWhole l) c b)
+      go : (c : Certificate) → certificate b (weightsOf b (certifyFullWeight l) weights) ≡ c → Good g b l (certified (certifyFullWeight l) c b)
       go Unbalanced h = good-declined k l Sums (record { not-outside = λ w q. omega arith; not-malformed = λ q. omega arith })
       go (Balanced c) h =
-          let w = certify-ceiling b (weightsOf b (certifyWhole l) weights) h in
-          good-by g g b l (answered b (certifyReply (certifyWhole l) c)) (fed-other g l (certifyReply (certifyWhole l) c) (certify-accepted (certifyWhole l) c) (omega arith)) k
-          (at-ceiling g b l (certifyWhole l) c e (low .0) (omega (arith, low .1)) (omega (arith, certify-fits (certifyWhole l) weights (k .study) (low .1) h)) (rw (w .shown) (w .reached)) (ceiling-holds k (weightsOf b (certifyWhole l) weights) h))
+          let w = certify-ceiling b (weightsOf b (certifyFullWeight l) weights) h in
+          good-by g g b l (answered b (certifyReply (certifyFullWeight l) c)) (fed-other g l (certifyReply (certifyFullWeight l) c) (certify-accepted (certifyFullWeight l) c) (omega arith)) k
+          (at-ceiling g b l (certifyFullWeight l) c e (low .0) (omega (arith, low .1)) (omega (arith, certify-fits (certifyFullWeight l) weights (k .study) (low .1) h)) (rw (w .shown) (w .reached)) (ceiling-holds k (weightsOf b (certifyFullWeight l) weights) h))
 
   found-right : (budget : ℕ) → Right g (trains b) (searchAnswer b budget)
   unfolding searchAnswer
@@ -269,25 +268,21 @@ module _ {g : Ledger} {b : List ℤ} (k : Keeps g b) (l : List ℕ) where
   as-asked : (q r : Request) → q ≡ r → Good g b l (requested r l b) → Good g b l (requested q l b)
   as-asked q r e x = subst (λ (s : Request). Good g b l (requested s l b)) (sym e) x
 
-  good-request : (q : Request) → Makes l b q → kindOf l ≡ requestKind q → Good g b l (requested q l b)
+  good-request : (q : Request) → Makes l b q → kindOf l ≡ kindNumber (requestKind q) → Good g b l (requested q l b)
   good-request (Load q) m e = as-asked (Load q) (loadRequest l) (m .0) (good-load g l b e (m .1))
   good-request (Add q) m e =
       let w = add-there (k .study) (add-fine l b (m .1)) in
       as-asked (Add q) (addRequest l) (m .0) (good-added (w .0) (w .1) e)
   good-request (Shift q) m e = as-asked (Shift q) (shiftRequest (trains b) (moveCount b)) (m .0) (good-shift e)
   good-request Tighten m e = good-tighten e
-  good-request (Certify q) m e = as-asked (Certify q) (certifyRequest l (weightCount b)) (m .0) (good-certify e (certify-fine l (weightCount b) (m .1) .whole))
+  good-request (Certify q) m e = as-asked (Certify q) (certifyRequest l (weightCount b)) (m .0) (good-certify e (certify-fine l (weightCount b) (m .1) .fullWeight))
   good-request (Search q) m e = as-asked (Search q) (searchRequest l) (m .0) (good-search e)
-
-  good-line : (x : Line) → lineOf l b ≡ x → Good g b l (lineAnswer x l b)
-  good-line (Asked q) e = good-request q (line-makes l b q e .1) (line-kind l b q e)
-  good-line (Refused r) e = good-declined k l r (line-allowed l b r e)
 
   -- a call on a block that the ledger keeps
   pub good-call : (buffer : List ℕ) → Good g b l (answer l b buffer)
-  unfolding answer
-  good-call buffer = rw (study-well-formed (k .study)) (go (ltb (length buffer) minBuffer))
-    where
-      go : (t : Bool) → Good g b l (cond t (answered b []) (lineAnswer (lineOf l b) l b))
-      go true = good-by g g b l (answered b []) (fed-refused g l [] empty-refused) k (empty-call g b l)
-      go false = good-line (lineOf l b) refl
+  good-call buffer =
+      answer-cases l b buffer (Good g b l)
+      (λ h. good-by g g b l (answered b []) (fed-refused g l [] empty-refused) k (empty-call g b l))
+      (λ e. absurd (not-both (study-well-formed (k .study)) e))
+      (λ r e. good-declined k l r (line-allowed l b r e))
+      (λ q a. good-request q (line-makes l b q (a .asked) .1) (line-kind l b q (a .asked)))

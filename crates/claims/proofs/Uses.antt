@@ -17,7 +17,7 @@ use Rattle.tables.specs.Block.{trains, scale, pairs, constant, size, first, sec
 use Rattle.tables.specs.WellFormed.{freshBlock}
 use Rattle.tables.specs.Plans.{IsPlan, choiceTotal, pairTotal, total, heldTotal}
 use Rattle.tables.proofs.Range.{not-both}
-use Rattle.certificates.specs.Rival.{whole, plus, times, sumOf, Same, AtMost, Rival, rivalTotal, IsRival, ConstantAtMost}
+use Rattle.certificates.specs.Rival.{asFraction, plus, times, sumOf, Same, AtMost, Rival, rivalTotal, IsRival, ConstantAtMost}
 use Rattle.frames.specs.Digits.{digit, byteAt}
 use Rattle.frames.specs.Fields.{field}
 use Rattle.frames.specs.Runs.{listFrom}
@@ -27,10 +27,10 @@ use Rattle.reader.specs.Reading.{lineOf}
 use Rattle.replies.specs.Replies.{boundOf}
 use Rattle.replies.specs.Wrote.{minBuffer}
 use Rattle.service.specs.Answer.{lineAnswer, answer}
-use Rattle.claims.specs.Ledger.{Entry, Ledger, accepted, loadedLedger, emptyLedger, fed, ledgerOf, costOf, hasLoad}
+use Rattle.service.specs.Calls.{Exchange, exchange}
+use Rattle.claims.specs.Ledger.{Ledger, accepted, loadedLedger, emptyLedger, fed, ledgerOf, costOf, hasLoad}
 use Rattle.claims.specs.Claims.{PlanOf, DeclinedAs, scaledCost, AtLine, AtCall, EachCall, AfterList, Claimed}
-use Rattle.claims.specs.Seen.{Seen, Chained, seenBlocks, seenEntries}
-use Rattle.claims.proofs.Lines.{entry}
+use Rattle.claims.specs.Seen.{Seen, Chained, seenBlocks, seenExchanges}
 use Rattle.claims.proofs.Seen.{seen-demand}
 
 -- the characters of a text
@@ -39,9 +39,9 @@ codes empty = []
 codes (char-then c s) = code c ∷ codes s
 
 -- a line and its reply, to be computed: whoever opens this name opens each definition on the way from characters to the ledger's costs
-unfoldable told : String → String → Entry
+unfoldable told : String → String → Exchange
 unfolding codes digit byteAt field listFrom pairAt entriesOf numbersOf sum choiceTotal pairTotal total accepted fed ledgerOf hasLoad
-told l r = entry (codes l) (codes r)
+told l r = exchange (codes l) (codes r)
 
 -- 'J is the first line above, loaded': by its ledger the plans 00, 01, 10 and 11 cost 3, 2, 3 and 2
 unfoldable load : String
@@ -74,17 +74,17 @@ unfolding told load j plan
 high-bound a = let h : 3 ≤ 2 = a .bound (omega arith) (plan 0 1) plan-01 in omega arith
 
 -- W of 0
-no-whole : AtLine j (told "05" "85010000000000000002000000") → ⊥
+no-full-weight : AtLine j (told "05" "85010000000000000002000000") → ⊥
 unfolding told
-no-whole a = let h : 0 < 0 = a .whole refl in omega arith
+no-full-weight a = let h : 0 < 0 = a .fullWeight refl in omega arith
 
 -- a ceiling of 1: J tightened is a rival with a constant of 2, of which choice 0 of train 1 costs 1 and all else nothing
 rival : Rival
-rival = record { gain = whole 2; loss = whole 0; choice = λ i a. whole (cond (eqb i 1 && eqb a 0) 1 0); pair = λ k a c. whole 0 }
+rival = record { gain = asFraction 2; loss = asFraction 0; choice = λ i a. asFraction (cond (eqb i 1 && eqb a 0) 1 0); pair = λ k a c. asFraction 0 }
 
 -- it gives plan (a, c) its cost
-same-cost : (a c : ℕ) → a < 2 → c < 2 → Same (rivalTotal (j .shape) rival (plan a c)) (plus (whole (scaledCost j (plan a c))) (whole 0))
-unfolding told load j plan rival Same rivalTotal sumOf plus whole
+same-cost : (a c : ℕ) → a < 2 → c < 2 → Same (rivalTotal (j .shape) rival (plan a c)) (plus (asFraction (scaledCost j (plan a c))) (asFraction 0))
+unfolding told load j plan rival Same rivalTotal sumOf plus asFraction
 same-cost zero zero h k = refl
 same-cost zero (suc zero) h k = refl
 same-cost (suc zero) zero h k = refl
@@ -94,11 +94,11 @@ same-cost zero (suc (suc c)) h k = absurd (omega arith)
 same-cost (suc zero) (suc (suc c)) h k = absurd (omega arith)
 
 is-rival : IsRival (j .shape) (scaledCost j) rival
-unfolding told load j plan rival IsRival IsPlan Same rivalTotal sumOf plus whole
+unfolding told load j plan rival IsRival IsPlan Same rivalTotal sumOf plus asFraction
 is-rival x p = same-cost (x 0) (x 1) (p 0 (omega arith)) (p 1 (omega arith))
 
 low-ceiling : AtLine j (told "05" "85000000000000000001000001") → ⊥
-unfolding told load rival ConstantAtMost AtMost times plus whole
+unfolding told load rival ConstantAtMost AtMost times plus asFraction
 low-ceiling a = let h : 2 ≤ 1 = a .ceiling refl rival is-rival in omega arith
 
 -- ended, with no plan
@@ -140,13 +140,13 @@ module _ (g : Ledger) (b : List ℤ) where
   unfolding told DeclinedAs
   tighten-outside a = a .never-outside (inr refl) (refl, refl)
 
-  no-malformed : (l : List ℕ) → AtCall g b (entry l (told "" "FF10" .reply)) → ⊥
+  no-malformed : (l : List ℕ) → AtCall g b (exchange l (told "" "FF10" .reply)) → ⊥
   unfolding told DeclinedAs
   no-malformed l a = a .never-malformed (refl, refl)
 
 -- ---- document 01's session
 
-unfoldable session : List Entry
+unfoldable session : List Exchange
 unfolding told load
 session =
     told load "81000000000000000000000000"
@@ -203,14 +203,14 @@ module _ {b₀ b₁ b₂ b₃ b : List ℤ} (d : Claimed (b₀ ∷ b₁ ∷ b₂
   j-bound = after .bound (plan 0 1) plan-01
 
 -- a call on the block that a list left is answered by its line: never with 16
-next-line : {bs : List (List ℤ)} {es : List Entry} {b : List ℤ} → Claimed bs es b → (l buffer : List ℕ) → minBuffer ≤ length buffer → answer l b buffer ≡ lineAnswer (lineOf l b) l b
+next-line : {bs : List (List ℤ)} {es : List Exchange} {b : List ℤ} → Claimed bs es b → (l buffer : List ℕ) → minBuffer ≤ length buffer → answer l b buffer ≡ lineAnswer (lineOf l b) l b
 unfolding answer
 next-line d l buffer h = rw (le-ltb (length buffer) minBuffer h, d .right) refl
 
 -- ---- what a caller saw
 
 -- J and its tightening were answered as in the session, by calls that met the contract: no plan of J costs less than 2
-seen-bound : (s t : Seen) → Chained freshBlock (s ∷ t ∷ []) → seenEntries (s ∷ t ∷ []) ≡ take 2 session → (x : ℕ → ℕ) → PlanOf j x → 2 ≤ costOf j x
+seen-bound : (s t : Seen) → Chained freshBlock (s ∷ t ∷ []) → seenExchanges (s ∷ t ∷ []) ≡ take 2 session → (x : ℕ → ℕ) → PlanOf j x → 2 ≤ costOf j x
 unfolding told load j session EachCall seenBlocks
 seen-bound s t c e = let d : EachCall emptyLedger (s .block ∷ t .block ∷ []) (take 2 session) = subst (EachCall emptyLedger (s .block ∷ t .block ∷ [])) e (seen-demand (s ∷ t ∷ []) c .each) in
     d .1 .0 .line refl .bound (omega arith)

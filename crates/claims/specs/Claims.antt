@@ -14,7 +14,8 @@ use Rattle.certificates.specs.Rival.{Rival, IsRival, ConstantAtMost}
 use Rattle.frames.specs.Fields.{field}
 use Rattle.lines.specs.Layout.{kindOf}
 use Rattle.replies.specs.Replies.{boundOf, refusalByte, replyKind, figureWidth, flag}
-use Rattle.claims.specs.Ledger.{Call, Entry, Ledger, lastBlock, blocks, entries, accepted, fed, ledgerOf, emptyLedger, costOf, hasLoad}
+use Rattle.service.specs.Calls.{Call, Exchange, lastBlock, blocks, exchanges}
+use Rattle.claims.specs.Ledger.{Ledger, accepted, fed, ledgerOf, emptyLedger, costOf, hasLoad}
 
 -- a plan of a ledger
 abbrev pub PlanOf : Ledger → (ℕ → ℕ) → Type 0
@@ -56,12 +57,12 @@ flagShown reply = field reply 1 1
 abbrev pub weightedShown : List ℕ → ℕ
 weightedShown reply = field reply 2 8
 
-abbrev pub wholeShown : List ℕ → ℕ
-wholeShown reply = field reply 10 3
+abbrev pub fullWeightShown : List ℕ → ℕ
+fullWeightShown reply = field reply 10 3
 
 -- 'Reached means E = W × c0', c0 being the constant of the block b
 abbrev pub reaches : List ℤ → List ℕ → Bool
-reaches b reply = eqb (weightedShown reply) (wholeShown reply * constant b)
+reaches b reply = eqb (weightedShown reply) (fullWeightShown reply * constant b)
 
 -- '86, 01 ended or 00 spent, count (4), cost (6), one byte a train'
 abbrev pub saysEnded : List ℕ → Bool
@@ -79,16 +80,16 @@ showsPlan reply = not (eqb (costShown reply) (256 ^ figureWidth - 1))
 
 -- ---- what is claimed of an accepted line and its reply, by the ledger g 'as it stands after that line'
 
-pub record AtLine (g : Ledger) (e : Entry) : Type 0 where
+pub record AtLine (g : Ledger) (e : Exchange) : Type 0 where
   -- 'Kinds 01 to 04: 81 to 84', 'Certify: 85', 'Search: 86': an accepted line is answered under its own kind (`other-kind`)
   pub kind : kindShown (e .reply) ≡ replyKind (kindOf (e .line))
   -- 'Each bound that a reply shows beside c0 was, at its own line, at most every plan's cost' (`tightened-bound`, `high-bound`)
   pub bound : kindShown (e .reply) ≤ replyKind 4 → (x : ℕ → ℕ) → PlanOf g x → boundShown (e .reply) ≤ costOf g x
-  -- 'The ceiling is E/W parts': W is above 0 (`no-whole`)
-  pub whole : kindShown (e .reply) ≡ replyKind 5 → 0 < wholeShown (e .reply)
+  -- 'The ceiling is E/W parts': W is above 0 (`no-full-weight`)
+  pub fullWeight : kindShown (e .reply) ≡ replyKind 5 → 0 < fullWeightShown (e .reply)
   -- 'W × the constant of every rival is at most E' (`certified-ceiling`, `low-ceiling`)
   pub ceiling : kindShown (e .reply) ≡ replyKind 5 → (r : Rival) → IsRival (g .shape) (scaledCost g) r
-      → ConstantAtMost (wholeShown (e .reply)) (weightedShown (e .reply)) r
+      → ConstantAtMost (fullWeightShown (e .reply)) (weightedShown (e .reply)) r
   -- 'every search reply that shows a plan, as each that says ended (01) does' (`ended-without-plan`)
   pub ended : kindShown (e .reply) ≡ replyKind 6 → saysEnded (e .reply) ≡ true → showsPlan (e .reply) ≡ true
   -- 'the cost shown is, at that line, that plan's cost' (`absent-choice`, `other-cost`)
@@ -104,7 +105,7 @@ pub record AtLine (g : Ledger) (e : Entry) : Type 0 where
 abbrev pub AddOrTighten : List ℕ → Type 0
 AddOrTighten l = (kindOf l ≡ 2) ⊎ (kindOf l ≡ 4)
 
-pub record AtCall (g : Ledger) (b : List ℤ) (e : Entry) : Type 0 where
+pub record AtCall (g : Ledger) (b : List ℤ) (e : Exchange) : Type 0 where
   -- 'A line is accepted if its reply isn't empty and doesn't begin with FF'
   pub line : accepted (e .reply) ≡ true → AtLine g e
   -- '01 if reached else 00' (`not-reached`, `reached-above`)
@@ -115,7 +116,7 @@ pub record AtCall (g : Ledger) (b : List ℤ) (e : Entry) : Type 0 where
   pub never-malformed : DeclinedAs malformed (e .reply) → ⊥
 
 -- the same of every call of a list, of as many blocks as lines, each by the ledger after its line (`last-call`, `as-many-blocks`)
-unfoldable pub EachCall : Ledger → List (List ℤ) → List Entry → Type 0
+unfoldable pub EachCall : Ledger → List (List ℤ) → List Exchange → Type 0
 EachCall g [] [] = Unit {0}
 EachCall g [] (e ∷ es) = ⊥
 EachCall g (b ∷ bs) [] = ⊥
@@ -144,7 +145,7 @@ pub record AfterList (g : Ledger) (b : List ℤ) : Type 0 where
   pub bound : (x : ℕ → ℕ) → PlanOf g x → boundOf b ≤ costOf g x
 
 -- of calls that had the blocks bs, whose lines with their replies are es, and which left the block b: 'one claim about the whole list'
-pub record Claimed (bs : List (List ℤ)) (es : List Entry) (b : List ℤ) : Type 0 where
+pub record Claimed (bs : List (List ℤ)) (es : List Exchange) (b : List ℤ) : Type 0 where
   -- with a load in the list or without, so that no later line gives 16 (`next-line`)
   pub right : wellFormed b ≡ true
   -- 'Claimed of every list with an accepted load' (`after`)
@@ -153,4 +154,4 @@ pub record Claimed (bs : List (List ℤ)) (es : List Entry) (b : List ℤ) : Typ
 
 -- demand 3 of a list of calls: 'the first has a fresh block'
 abbrev pub Demand : List Call → Type 0
-Demand calls = Claimed (blocks freshBlock calls) (entries freshBlock calls) (lastBlock freshBlock calls)
+Demand calls = Claimed (blocks freshBlock calls) (exchanges freshBlock calls) (lastBlock freshBlock calls)

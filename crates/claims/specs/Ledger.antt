@@ -1,44 +1,16 @@
--- Document 01, 'Lists and the ledger': lists of calls from the fresh block, and what the ledger knows of them.
+-- Document 01, 'Lists and the ledger': what the ledger knows of a list of lines, each with its reply.
 use mathlib.Core.Bool.{Bool, true, false, cond, _&&_, not}
 use mathlib.Core.List.{List, [], _∷_}
 use Prim.Native.Nat.{ℕ, _+_, _*_}
 use lib.Dec.{ltb, eqb}
-use lib.IntN.{ℤ}
 use lib.ListN.{length}
-use Rattle.tables.specs.Numbers.{Numbers, numbers, nth, choiceStart, rowsOf, entryStart}
+use Rattle.tables.specs.Numbers.{Numbers, numbers, nth, choiceStart, lanesOf, entryStart}
 use Rattle.tables.specs.Plans.{Shape, Costs, total}
 use Rattle.frames.specs.Fields.{field}
 use Rattle.lines.specs.Layout.{kindOf, addTrain, addChoice, addPoints}
 use Rattle.lines.specs.Numbers.{numbersOf}
 use Rattle.replies.specs.Replies.{refusalByte}
-use Rattle.service.specs.Answer.{answer}
-
--- 'Each call has any line, any reply buffer'
-pub record Call : Type 0 where
-  pub line : List ℕ
-  pub buffer : List ℕ
-
--- a line with its reply
-pub record Entry : Type 0 where
-  pub line : List ℕ
-  pub reply : List ℕ
-
--- the block after a list of calls that begins with block b: each call has 'the block that the call before left'
-unfoldable pub lastBlock : List ℤ → List Call → List ℤ
-lastBlock b [] = b
-lastBlock b (c ∷ cs) = lastBlock (answer (c .line) b (c .buffer) .block) cs
-
--- the block that each call has, the first of them b
-unfoldable pub blocks : List ℤ → List Call → List (List ℤ)
-blocks b [] = []
-blocks b (c ∷ cs) = b ∷ blocks (answer (c .line) b (c .buffer) .block) cs
-
--- the lines with their replies, in order
-unfoldable pub entries : List ℤ → List Call → List Entry
-entries b [] = []
-entries b (c ∷ cs) =
-    let a = answer (c .line) b (c .buffer) in
-    record { line = c .line; reply = a .reply } ∷ entries (a .block) cs
+use Rattle.service.specs.Calls.{Exchange}
 
 -- 'A line is accepted if its reply isn't empty and doesn't begin with FF'
 unfoldable pub accepted : List ℕ → Bool
@@ -60,7 +32,7 @@ numbersCosts l =
     record {
       constant = 0;
       choice = λ i a. nth (l .choices) (choiceStart (l .sizes) i + a);
-      pair = λ k a c. nth (l .entries) (entryStart (l .sizes) (l .firsts) (l .seconds) k + rowsOf (l .sizes) (l .seconds) k * a + c);
+      pair = λ k a c. nth (l .entries) (entryStart (l .sizes) (l .firsts) (l .seconds) k + lanesOf (l .sizes) (l .seconds) k * a + c);
     }
 
 -- 'Accepted load: n, s, sizes, pairs and costs in points become those of the line'
@@ -86,10 +58,10 @@ abbrev pub emptyLedger : Ledger
 emptyLedger = record { scale = 0; shape = numbersShape (numbers 0 [] [] [] [] []); costs = numbersCosts (numbers 0 [] [] [] [] []) }
 
 -- 'The ledger is fed the lines in order, each with its reply, and nothing of the block': 'Every other accepted line, and every refused line: nothing changes'
-unfoldable pub fed : Entry → Ledger → Ledger
+unfoldable pub fed : Exchange → Ledger → Ledger
 fed e g = cond (accepted (e .reply)) (cond (eqb (kindOf (e .line)) 1) (loadedLedger (e .line)) (cond (eqb (kindOf (e .line)) 2) (addedLedger (e .line) g) g)) g
 
-unfoldable pub ledgerOf : Ledger → List Entry → Ledger
+unfoldable pub ledgerOf : Ledger → List Exchange → Ledger
 ledgerOf g [] = g
 ledgerOf g (e ∷ es) = ledgerOf (fed e g) es
 
@@ -98,6 +70,6 @@ abbrev pub costOf : Ledger → (ℕ → ℕ) → ℕ
 costOf g x = total (g .shape) (g .costs) x
 
 -- the list has an accepted load
-unfoldable pub hasLoad : List Entry → Bool
+unfoldable pub hasLoad : List Exchange → Bool
 hasLoad [] = false
 hasLoad (e ∷ es) = cond (accepted (e .reply) && eqb (kindOf (e .line)) 1) true (hasLoad es)

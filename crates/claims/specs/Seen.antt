@@ -7,7 +7,7 @@ use lib.ListN.{take}
 use Rattle.tables.specs.WellFormed.{freshBlock}
 use Rattle.service.specs.Answer.{answer}
 use Rattle.service.specs.Wrote.{Answers}
-use Rattle.claims.specs.Ledger.{Entry}
+use Rattle.service.specs.Calls.{Exchange, exchange}
 use Rattle.claims.specs.Claims.{Claimed}
 
 -- one call: what went in, and what came out
@@ -31,9 +31,9 @@ seenBlocks [] = []
 seenBlocks (s ∷ ss) = s .block ∷ seenBlocks ss
 
 -- the lines, each with the written front of its buffer
-unfoldable pub seenEntries : List Seen → List Entry
-seenEntries [] = []
-seenEntries (s ∷ ss) = record { line = s .line; reply = take (s .count) (s .buffer-after) } ∷ seenEntries ss
+unfoldable pub seenExchanges : List Seen → List Exchange
+seenExchanges [] = []
+seenExchanges (s ∷ ss) = exchange (s .line) (take (s .count) (s .buffer-after)) ∷ seenExchanges ss
 
 -- the block that the last call left
 unfoldable pub seenLast : List ℤ → List Seen → List ℤ
@@ -42,4 +42,4 @@ seenLast b (s ∷ ss) = seenLast (s .block-after) ss
 
 -- demand 3 of what a caller saw, from a fresh block: all that `Demand` claims (`seen-bound` in proofs/Uses.antt)
 abbrev pub SeenDemand : List Seen → Type 0
-SeenDemand seen = Claimed (seenBlocks seen) (seenEntries seen) (seenLast freshBlock seen)
+SeenDemand seen = Claimed (seenBlocks seen) (seenExchanges seen) (seenLast freshBlock seen)

@@ -6,8 +6,11 @@ use Rattle.tables.specs.Sum.{sum}
 use Rattle.frames.specs.Fields.{field, signedField}
 
 -- 'The first byte is the kind'
+abbrev pub kindWidth : ℕ
+kindWidth = 1
+
 abbrev pub kindOf : List ℕ → ℕ
-kindOf l = field l 0 1
+kindOf l = field l 0 kindWidth
 
 -- how many bytes a cost, a lift or a move, W or a weight, and a budget have
 abbrev pub costWidth : ℕ
@@ -92,8 +95,8 @@ shiftMove l n k = signedField l (movesAt n + moveWidth * k) moveWidth
 
 -- ---- 05 certify: 'W (3), weights w_i(a) (3 each), weights z_ij(a,b) (3 each)'
 
-abbrev pub certifyWhole : List ℕ → ℕ
-certifyWhole l = field l 1 weightWidth
+abbrev pub certifyFullWeight : List ℕ → ℕ
+certifyFullWeight l = field l 1 weightWidth
 
 abbrev pub weightsAt : ℕ
 weightsAt = 4

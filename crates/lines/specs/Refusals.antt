@@ -1,7 +1,7 @@
 -- Document 01, 'What is declined': the number of each refusal.
 use Prim.Native.Nat.{ℕ}
 use Rattle.lines.specs.declared.refusal.Refusal.{Refusal}
-use Rattle.lines.specs.declared.refusal.Refusal.the-variants.{Characters, TooLong, NoKind, FreshBlock, Fields, Range, Cost, Pair, Absent, CostAbove, Move, PartsOutside, Whole, Sums, Budget, Malformed}
+use Rattle.lines.specs.declared.refusal.Refusal.the-variants.{Characters, TooLong, NoKind, FreshBlock, Fields, Range, Cost, Pair, Absent, CostAbove, Move, PartsOutside, FullWeight, Sums, Budget, Malformed}
 
 abbrev pub refusalNumber : Refusal → ℕ
 refusalNumber Characters = 1
@@ -16,7 +16,7 @@ refusalNumber Absent = 9
 refusalNumber CostAbove = 10
 refusalNumber Move = 11
 refusalNumber PartsOutside = 12
-refusalNumber Whole = 13
+refusalNumber FullWeight = 13
 refusalNumber Sums = 14
 refusalNumber Budget = 15
 refusalNumber Malformed = 16

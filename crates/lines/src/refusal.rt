@@ -27,7 +27,7 @@ pub enum Refusal {
     // The constant or an entry would end outside its limits.
     PartsOutside,
     // W outside its range.
-    Whole,
+    FullWeight,
     // The weights' sums disagree.
     Sums,
     // A budget outside its range.
@@ -53,7 +53,7 @@ pub fn number(r: Refusal) -> u8
         Refusal::CostAbove => 10,
         Refusal::Move => 11,
         Refusal::PartsOutside => 12,
-        Refusal::Whole => 13,
+        Refusal::FullWeight => 13,
         Refusal::Sums => 14,
         Refusal::Budget => 15,
         Refusal::Malformed => 16,

@@ -50,7 +50,8 @@ impl Shift {
 }
 
 pub struct Certify {
-    pub whole: u64,
+    // W.
+    pub full: u64,
     pub weights: Run,
 }
 
@@ -60,7 +61,7 @@ impl Certify {
     // How many bytes W and a weight have.
     pub const WEIGHT_WIDTH: usize = 3;
     // The highest W.
-    pub const WHOLE: u64 = 100000;
+    pub const FULL_WEIGHT: u64 = 100000;
 }
 
 pub struct Search {

@@ -9,7 +9,7 @@ use lib.IntN.{ℤ, pos}
 use lib.ListN.{length, set, length-set}
 use lib.Seq.{getD-set-same, getD-set-other}
 use Rattle.tables.specs.Block.{blockLength, maxChoices, maxPairs, sizePlace, firstPlace, secondPlace, loadedChoicePlace, heldChoicePlace, loadedEntryPlace, heldEntryPlace, at}
-use Rattle.tables.specs.Numbers.{nth, choiceStart, rowsOf, entryStart}
+use Rattle.tables.specs.Numbers.{nth, choiceStart, lanesOf, entryStart}
 use Rattle.operations.specs.Fold.{iter}
 use Rattle.operations.specs.Load.{sizesLoaded, pairsLoaded, runLoaded, choicesLoaded, pairLoaded, entriesLoaded, SizesIn}
 use Rattle.operations.proofs.Fold.{iter-ind}
@@ -213,29 +213,29 @@ module _ (s : ℕ) (sizes firsts seconds entries : List ℕ) (b : List ℤ) wher
   turn = entriesTurn s sizes firsts seconds entries
 
   turn-length : (k : ℕ) (x : List ℤ) → length (turn k x) ≡ length x
-  turn-length k x = pair-length s entries (entryStart sizes firsts seconds k) (rowsOf sizes firsts k) (rowsOf sizes seconds k) k x
+  turn-length k x = pair-length s entries (entryStart sizes firsts seconds k) (lanesOf sizes firsts k) (lanesOf sizes seconds k) k x
 
   turn-kept : (k : ℕ) (x : List ℤ) (p : ℕ)
-      → ((a c : ℕ) → a < rowsOf sizes firsts k → c < rowsOf sizes seconds k → (p ≢ loadedEntryPlace k a c) × (p ≢ heldEntryPlace k a c)) → at (turn k x) p ≡ at x p
-  turn-kept k x p out = pair-kept s entries (entryStart sizes firsts seconds k) (rowsOf sizes firsts k) (rowsOf sizes seconds k) k x p out
+      → ((a c : ℕ) → a < lanesOf sizes firsts k → c < lanesOf sizes seconds k → (p ≢ loadedEntryPlace k a c) × (p ≢ heldEntryPlace k a c)) → at (turn k x) p ≡ at x p
+  turn-kept k x p out = pair-kept s entries (entryStart sizes firsts seconds k) (lanesOf sizes firsts k) (lanesOf sizes seconds k) k x p out
 
   pub entries-length : length (entriesLoaded s sizes firsts seconds entries b) ≡ length b
   entries-length = turns-length (length firsts) turn b turn-length
 
   pub entries-kept : (p : ℕ)
-      → ((k a c : ℕ) → k < length firsts → a < rowsOf sizes firsts k → c < rowsOf sizes seconds k → (p ≢ loadedEntryPlace k a c) × (p ≢ heldEntryPlace k a c))
+      → ((k a c : ℕ) → k < length firsts → a < lanesOf sizes firsts k → c < lanesOf sizes seconds k → (p ≢ loadedEntryPlace k a c) × (p ≢ heldEntryPlace k a c))
       → at (entriesLoaded s sizes firsts seconds entries b) p ≡ at b p
   entries-kept p out = turns-kept (length firsts) turn b p (λ k x h. turn-kept k x p (λ a c. out k a c h))
 
   pub entries-two : length b ≡ blockLength → length firsts ≤ maxPairs
-      → ((k : ℕ) → k < length firsts → (rowsOf sizes firsts k ≤ maxChoices) × (rowsOf sizes seconds k ≤ maxChoices))
-      → (k a c : ℕ) → k < length firsts → a < rowsOf sizes firsts k → c < rowsOf sizes seconds k
+      → ((k : ℕ) → k < length firsts → (lanesOf sizes firsts k ≤ maxChoices) × (lanesOf sizes seconds k ≤ maxChoices))
+      → (k a c : ℕ) → k < length firsts → a < lanesOf sizes firsts k → c < lanesOf sizes seconds k
       → Priced s (loadedEntryPlace k a c) (heldEntryPlace k a c) (entryCost sizes firsts seconds entries k a c) (entriesLoaded s sizes firsts seconds entries b)
   entries-two whole few fit k a c h p q =
       let fits = fit k h in
       turns-made (length firsts) turn b
       (Priced s (loadedEntryPlace k a c) (heldEntryPlace k a c) (entryCost sizes firsts seconds entries k a c)) k h turn-length
-      (λ x e. pair-two s entries (entryStart sizes firsts seconds k) (rowsOf sizes firsts k) (rowsOf sizes seconds k) k x (e ∙ whole) (fits .0) (fits .1) (omega arith) a c p q)
+      (λ x e. pair-two s entries (entryStart sizes firsts seconds k) (lanesOf sizes firsts k) (lanesOf sizes seconds k) k x (e ∙ whole) (fits .0) (fits .1) (omega arith) a c p q)
       (λ j x l n t. let wide = fit j l in two-kept (turn j x) t
       (turn-kept j x (loadedEntryPlace k a c) (λ d m u v. (λ e. n (omega arith), λ e. omega arith)))
       (turn-kept j x (heldEntryPlace k a c) (λ d m u v. (λ e. omega arith, λ e. n (omega arith)))))

@@ -10,7 +10,7 @@ use lib.Seq.{take-suc-set}
 use Rattle.units.specs.Units.{Sound, theScale}
 use Rattle.tables.specs.Block.{trainsPlace, scalePlace, pairsPlace, sizePlace, firstPlace, secondPlace, loadedChoicePlace, heldChoicePlace, loadedEntryPlace, heldEntryPlace}
 use Rattle.tables.specs.WellFormed.{freshBlock}
-use Rattle.tables.specs.Numbers.{Numbers, nth, choiceStart, rowsOf, entryStart, InRange}
+use Rattle.tables.specs.Numbers.{Numbers, nth, choiceStart, lanesOf, entryStart, InRange}
 use Rattle.operations.specs.Fold.{iter}
 use Rattle.operations.specs.Load.{headLoaded, sizesLoaded, pairsLoaded, runLoaded, choicesLoaded, pairLoaded, entriesLoaded, loadedBlock, SizesIn, PairsIn}
 use Rattle.operations.proofs.Fold.{iter-more}
@@ -23,7 +23,7 @@ choiceCost sizes choices i a = nth choices (choiceStart sizes i + a)
 
 -- the cost of the choices a and c of pair k, in points
 abbrev pub entryCost : List ℕ → List ℕ → List ℕ → List ℕ → ℕ → ℕ → ℕ → ℕ
-entryCost sizes firsts seconds entries k a c = nth entries (entryStart sizes firsts seconds k + rowsOf sizes seconds k * a + c)
+entryCost sizes firsts seconds entries k a c = nth entries (entryStart sizes firsts seconds k + lanesOf sizes seconds k * a + c)
 
 -- ---- the turns of the loops
 
@@ -43,7 +43,7 @@ abbrev pub rowTurn : ℕ → List ℕ → ℕ → ℕ → ℕ → ℕ → List �
 rowTurn s entries start columns k a = runLoaded s entries (start + columns * a) (loadedEntryPlace k a 0) (heldEntryPlace k a 0) columns
 
 abbrev pub entriesTurn : ℕ → List ℕ → List ℕ → List ℕ → List ℕ → ℕ → List ℤ → List ℤ
-entriesTurn s sizes firsts seconds entries k = pairLoaded s entries (entryStart sizes firsts seconds k) (rowsOf sizes firsts k) (rowsOf sizes seconds k) k
+entriesTurn s sizes firsts seconds entries k = pairLoaded s entries (entryStart sizes firsts seconds k) (lanesOf sizes firsts k) (lanesOf sizes seconds k) k
 
 -- ---- a turn of the code, as its calls say it
 

@@ -17,7 +17,7 @@ use Rattle.tables.specs.Sum.{sum}
 use Rattle.tables.specs.Block.{blockLength, maxTrains, maxChoices, maxPairs, maxCost, maxParts, trainsPlace, scalePlace, pairsPlace, constantPlace, sizesFrom, firstsFrom, secondsFrom, sizePlace, firstPlace, secondPlace, loadedChoicesFrom, heldChoicesFrom, loadedEntriesFrom, heldEntriesFrom, entriesOfPair, loadedChoicePlace, heldChoicePlace, loadedEntryPlace, heldEntryPlace, at, trains, scale, pairs, constant, size, first, second, loadedChoice, heldChoice, loadedEntry, heldEntry}
 use Rattle.tables.specs.WellFormed.{Limits, from-to, within, usedIf, choiceUsed, entryUsed, headLimits, limitsAt, follows, pairRight, Study, freshBlock}
 use Rattle.tables.specs.Plans.{IsPlan, choiceTotal, pairTotal, total, shapeOf, loadedCosts, heldCosts, loadedTotal, heldTotal}
-use Rattle.tables.specs.Numbers.{Numbers, nth, rowsOf, InRange}
+use Rattle.tables.specs.Numbers.{Numbers, nth, lanesOf, InRange}
 use Rattle.tables.proofs.Range.{both-true}
 use Rattle.tables.proofs.Limits.{within-pos, choice-used, entry-used, limits-head, limits-size, limits-first, limits-second, limits-loaded-choices, limits-held-choices, limits-loaded-entries, limits-held-entries}
 use Rattle.tables.proofs.Sum.{sum-cong, sum-scale}
@@ -149,14 +149,14 @@ module _ {l : Numbers} (r : InRange l) where
       (before-entries (loadedChoicePlace i a) (omega arith)) (before-entries (heldChoicePlace i a) (omega arith))
 
   -- a pair has at most 8 rows and 8 columns
-  pair-rows : (k : ℕ) → k < length (l .firsts) → (rowsOf (l .sizes) (l .firsts) k ≤ maxChoices) × (rowsOf (l .sizes) (l .seconds) k ≤ maxChoices)
-  pair-rows k h =
+  pair-lanes : (k : ℕ) → k < length (l .firsts) → (lanesOf (l .sizes) (l .firsts) k ≤ maxChoices) × (lanesOf (l .sizes) (l .seconds) k ≤ maxChoices)
+  pair-lanes k h =
       let b = r .below k h in (r .sizes (nth (l .firsts) k) (omega arith) .1, r .sizes (nth (l .seconds) k) (b .1) .1)
 
-  pub at-entry : (k a c : ℕ) → k < length (l .firsts) → a < rowsOf (l .sizes) (l .firsts) k → c < rowsOf (l .sizes) (l .seconds) k
+  pub at-entry : (k a c : ℕ) → k < length (l .firsts) → a < lanesOf (l .sizes) (l .firsts) k → c < lanesOf (l .sizes) (l .seconds) k
       → Priced (l .scale) (loadedEntryPlace k a c) (heldEntryPlace k a c) (entryCost (l .sizes) (l .firsts) (l .seconds) (l .entries) k a c) (loadedBlock l)
   unfolding loadedBlock
-  at-entry = entries-two (l .scale) (l .sizes) (l .firsts) (l .seconds) (l .entries) (priced l) priced-length (r .pairs .0) pair-rows
+  at-entry = entries-two (l .scale) (l .sizes) (l .firsts) (l .seconds) (l .entries) (priced l) priced-length (r .pairs .0) pair-lanes
 
   -- ---- unused places
 
@@ -181,7 +181,7 @@ module _ {l : Numbers} (r : InRange l) where
       before-entries p q ∙ choices-kept (l .scale) (l .sizes) (l .choices) (shaped l) (in-sizes r) p out ∙ past-shape p h (omega arith)
 
   pub no-entry : (p : ℕ) → loadedEntriesFrom ≤ p → p < blockLength
-      → ((k a c : ℕ) → k < length (l .firsts) → a < rowsOf (l .sizes) (l .firsts) k → c < rowsOf (l .sizes) (l .seconds) k → (p ≢ loadedEntryPlace k a c) × (p ≢ heldEntryPlace k a c))
+      → ((k a c : ℕ) → k < length (l .firsts) → a < lanesOf (l .sizes) (l .firsts) k → c < lanesOf (l .sizes) (l .seconds) k → (p ≢ loadedEntryPlace k a c) × (p ≢ heldEntryPlace k a c))
       → at (loadedBlock l) p ≡ pos 0
   unfolding loadedBlock
   no-entry p h q out =
@@ -219,7 +219,7 @@ module _ {l : Numbers} (r : InRange l) where
     pub load-held-choice : heldChoice (loadedBlock l) i a ≡ l .scale * choiceCost (l .sizes) (l .choices) i a
     load-held-choice = figure-at (loadedBlock l) (heldChoicePlace i a) _ (at-choice i a h q .other)
 
-  module _ (k a c : ℕ) (h : k < length (l .firsts)) (p : a < rowsOf (l .sizes) (l .firsts) k) (q : c < rowsOf (l .sizes) (l .seconds) k) where
+  module _ (k a c : ℕ) (h : k < length (l .firsts)) (p : a < lanesOf (l .sizes) (l .firsts) k) (q : c < lanesOf (l .sizes) (l .seconds) k) where
     pub load-loaded-entry : loadedEntry (loadedBlock l) k a c ≡ entryCost (l .sizes) (l .firsts) (l .seconds) (l .entries) k a c
     load-loaded-entry = figure-at (loadedBlock l) (loadedEntryPlace k a c) _ (at-entry k a c h p q .one)
 
@@ -316,31 +316,31 @@ module _ {l : Numbers} (r : InRange l) where
 
   -- ---- the tables of pairs
 
-  rows-of : (k : ℕ) → k < length (l .firsts)
-      → (size (loadedBlock l) (first (loadedBlock l) k) ≡ rowsOf (l .sizes) (l .firsts) k) × (size (loadedBlock l) (second (loadedBlock l) k) ≡ rowsOf (l .sizes) (l .seconds) k)
-  rows-of k h =
+  lanes-of : (k : ℕ) → k < length (l .firsts)
+      → (size (loadedBlock l) (first (loadedBlock l) k) ≡ lanesOf (l .sizes) (l .firsts) k) × (size (loadedBlock l) (second (loadedBlock l) k) ≡ lanesOf (l .sizes) (l .seconds) k)
+  lanes-of k h =
       let w = r .below k h in (
         ap (size (loadedBlock l)) (load-first r k h) ∙ load-size r (nth (l .firsts) k) (omega arith),
         ap (size (loadedBlock l)) (load-second r k h) ∙ load-size r (nth (l .seconds) k) (w .1),
       )
 
   entry-there : (o : ℕ) → entryUsed (loadedBlock l) o ≡ true
-      → (o / 64 < length (l .firsts)) × (o % 64 / 8 < rowsOf (l .sizes) (l .firsts) (o / 64)) × (o % 8 < rowsOf (l .sizes) (l .seconds) (o / 64))
+      → (o / 64 < length (l .firsts)) × (o % 64 / 8 < lanesOf (l .sizes) (l .firsts) (o / 64)) × (o % 8 < lanesOf (l .sizes) (l .seconds) (o / 64))
   unfolding entryUsed
   entry-there o t =
       let b = loadedBlock l in
       let w = both-true (ltb (o / 64) (pairs b)) (ltb (o % 64 / 8) (size b (first b (o / 64))) && ltb (o % 8) (size b (second b (o / 64)))) t in
       let u = both-true (ltb (o % 64 / 8) (size b (first b (o / 64)))) (ltb (o % 8) (size b (second b (o / 64)))) (w .1) in
       let h : o / 64 < length (l .firsts) = omega (arith, ltb-true, load-pairs r) in
-      (h, omega (arith, ltb-true, rows-of (o / 64) h), omega (arith, ltb-true, rows-of (o / 64) h))
+      (h, omega (arith, ltb-true, lanes-of (o / 64) h), omega (arith, ltb-true, lanes-of (o / 64) h))
 
   entry-apart : (o : ℕ) → entryUsed (loadedBlock l) o ≡ false
-      → (k a c : ℕ) → k < length (l .firsts) → a < rowsOf (l .sizes) (l .firsts) k → c < rowsOf (l .sizes) (l .seconds) k → o ≢ entriesOfPair * k + (maxChoices * a + c)
+      → (k a c : ℕ) → k < length (l .firsts) → a < lanesOf (l .sizes) (l .firsts) k → c < lanesOf (l .sizes) (l .seconds) k → o ≢ entriesOfPair * k + (maxChoices * a + c)
   entry-apart o f k a c h p q e =
       let b = loadedBlock l in
       let t : entryUsed b (entriesOfPair * k + (maxChoices * a + c)) ≡ true =
-      entry-used b k a c (omega (arith, pair-rows r k h)) (omega (arith, pair-rows r k h))
-      ∙ rw (lt-ltb k (pairs b) (omega (arith, load-pairs r)), lt-ltb a (size b (first b k)) (omega (arith, rows-of k h)), lt-ltb c (size b (second b k)) (omega (arith, rows-of k h))) in
+      entry-used b k a c (omega (arith, pair-lanes r k h)) (omega (arith, pair-lanes r k h))
+      ∙ rw (lt-ltb k (pairs b) (omega (arith, load-pairs r)), lt-ltb a (size b (first b k)) (omega (arith, lanes-of k h)), lt-ltb c (size b (second b k)) (omega (arith, lanes-of k h))) in
       let z : _≡_ {A = ℕ} 0 1 = cc in
       omega arith
 
@@ -362,7 +362,7 @@ module _ {l : Numbers} (r : InRange l) where
       used-right (loadedBlock l) (heldEntriesFrom + o) _ (entryUsed (loadedBlock l) o) 0 maxParts (limits-held-entries (loadedBlock l) o)
       (λ t. (entry-at o t .other, omega arith, in-parts _ (r .entry-costs _)))
       (λ f. no-entry r (heldEntriesFrom + o) (omega arith) (omega arith)
-      (λ k a c t p q. (λ e. omega (arith, r .pairs .0, pair-rows r k t), λ e. entry-apart o f k a c t p q (omega arith))))
+      (λ k a c t p q. (λ e. omega (arith, r .pairs .0, pair-lanes r k t), λ e. entry-apart o f k a c t p q (omega arith))))
 
   -- ---- every place
 
@@ -430,6 +430,6 @@ module _ {l : Numbers} (r : InRange l) where
           let b = loadedBlock l in
           let q : k < length (l .firsts) = omega (arith, load-pairs r) in
           let w = r .below k q in
-          let t : x (first b k) < rowsOf (l .sizes) (l .firsts) k = omega (arith, p (first b k) (omega (arith, load-first r k q, load-trains r)), rows-of k q) in
-          let u : x (second b k) < rowsOf (l .sizes) (l .seconds) k = omega (arith, p (second b k) (omega (arith, load-second r k q, load-trains r)), rows-of k q) in
+          let t : x (first b k) < lanesOf (l .sizes) (l .firsts) k = omega (arith, p (first b k) (omega (arith, load-first r k q, load-trains r)), lanes-of k q) in
+          let u : x (second b k) < lanesOf (l .sizes) (l .seconds) k = omega (arith, p (second b k) (omega (arith, load-second r k q, load-trains r)), lanes-of k q) in
           rw (load-held-entry r k (x (first b k)) (x (second b k)) q t u, load-loaded-entry r k (x (first b k)) (x (second b k)) q t u, load-scale r)

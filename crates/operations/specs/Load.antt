@@ -6,7 +6,7 @@ use lib.IntN.{ℤ, pos}
 use lib.ListN.{length, set}
 use Rattle.tables.specs.Block.{maxTrains, maxChoices, maxPairs, maxCost, trainsPlace, scalePlace, pairsPlace, sizePlace, firstPlace, secondPlace, loadedChoicePlace, heldChoicePlace, loadedEntryPlace, heldEntryPlace}
 use Rattle.tables.specs.WellFormed.{freshBlock}
-use Rattle.tables.specs.Numbers.{Numbers, nth, choiceStart, rowsOf, entryStart}
+use Rattle.tables.specs.Numbers.{Numbers, nth, choiceStart, lanesOf, entryStart}
 use Rattle.operations.specs.Fold.{iter}
 
 -- n, s and m
@@ -34,7 +34,7 @@ pairLoaded s entries start rows columns k b = iter rows (λ a. runLoaded s entri
 -- each pair's costs
 abbrev pub entriesLoaded : ℕ → List ℕ → List ℕ → List ℕ → List ℕ → List ℤ → List ℤ
 entriesLoaded s sizes firsts seconds entries b =
-    iter (length firsts) (λ k. pairLoaded s entries (entryStart sizes firsts seconds k) (rowsOf sizes firsts k) (rowsOf sizes seconds k) k) b
+    iter (length firsts) (λ k. pairLoaded s entries (entryStart sizes firsts seconds k) (lanesOf sizes firsts k) (lanesOf sizes seconds k) k) b
 
 -- the block after the load, whatever stood there before
 unfoldable pub loadedBlock : Numbers → List ℤ

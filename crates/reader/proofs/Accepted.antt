@@ -5,13 +5,13 @@ use Prim.Native.Nat.{ℕ, _+_, _*_, _-_, _<_, _≤_}
 use lib.IntN.{ℤ, natAbs}
 use borrow.Author.Tests.{leb-true}
 use Rattle.tables.specs.Block.{maxCost, trains, size}
-use Rattle.tables.specs.Ranges.{maxMove, maxWhole, maxBudget}
+use Rattle.tables.specs.Ranges.{maxMove, maxFullWeight, maxBudget}
 use Rattle.frames.specs.Digits.{bytes}
 use Rattle.frames.specs.Fields.{field, signedField}
-use Rattle.lines.specs.declared.refusal.Refusal.the-variants.{Fields, Absent, Cost, Move, Whole, Budget}
+use Rattle.lines.specs.declared.refusal.Refusal.the-variants.{Fields, Absent, Cost, Move, FullWeight, Budget}
 use Rattle.lines.specs.declared.request.Rule.the-variants.{Any, Between, Around}
 use Rattle.lines.specs.declared.request.Verdict.the-variants.{Fine}
-use Rattle.lines.specs.Layout.{costWidth, moveWidth, weightWidth, budgetWidth, addTrain, addChoice, addPoints, liftsAt, movesAt, certifyWhole, weightsAt, searchBudget}
+use Rattle.lines.specs.Layout.{costWidth, moveWidth, weightWidth, budgetWidth, addTrain, addChoice, addPoints, liftsAt, movesAt, certifyFullWeight, weightsAt, searchBudget}
 use Rattle.lines.specs.Verdicts.{then, fieldVerdict, runVerdict, endVerdict}
 use Rattle.lines.proofs.Judged.{then-fine, field-within, run-fine, between, end-fine}
 use Rattle.reader.specs.Reading.{addVerdict, shiftVerdict, certifyVerdict, searchVerdict}
@@ -64,19 +64,19 @@ shift-fine l n moves e =
 -- ---- 05 certify
 
 pub record FineCertify (l : List ℕ) (weights : ℕ) : Type 0 where
-  pub whole : (1 ≤ certifyWhole l) × (certifyWhole l ≤ maxWhole)
+  pub fullWeight : (1 ≤ certifyFullWeight l) × (certifyFullWeight l ≤ maxFullWeight)
   pub ends : bytes l ≡ weightsAt + weightWidth * weights
 
 pub certify-fine : (l : List ℕ) (weights : ℕ) → certifyVerdict l weights ≡ Fine → FineCertify l weights
 unfolding certifyVerdict
 certify-fine l weights e =
-    let whole = fieldVerdict l 1 weightWidth (Between 1 maxWhole) Whole in
+    let fullWeight = fieldVerdict l 1 weightWidth (Between 1 maxFullWeight) FullWeight in
     let run = runVerdict l weightsAt weightWidth weights Any Fields in
     let end = endVerdict (bytes l) (weightsAt + weightWidth * weights) in
-    let f = then-fine whole (then run end) e in
+    let f = then-fine fullWeight (then run end) e in
     let g = then-fine run end (f .1) in
     record {
-      whole = field-within l 1 weightWidth 1 maxWhole Whole (f .0) .1;
+      fullWeight = field-within l 1 weightWidth 1 maxFullWeight FullWeight (f .0) .1;
       ends = sym (end-fine (bytes l) (weightsAt + weightWidth * weights) (g .1));
     }
 

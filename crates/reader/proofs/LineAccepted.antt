@@ -1,10 +1,9 @@
 -- What an accepted line is: its frame, its kind's verdict, and its request.
-use mathlib.Core.Path.{_≡_, refl, subst}
+use mathlib.Core.Path.{_≡_, refl, sym, subst}
 use mathlib.Core.Bool.{Bool, true, false, cond, _&&_}
 use mathlib.Core.List.{List}
 use Prim.Native.Nat.{ℕ, _+_, _*_, _<_, _^_}
 use native.Mathlib.Omega.{arith}
-use lib.Dec.{leb, eqb}
 use lib.IntN.{ℤ}
 use Rattle.tables.specs.Block.{trains, size}
 use Rattle.tables.specs.WellFormed.{fresh, Study}
@@ -17,26 +16,20 @@ use Rattle.frames.specs.Fields.{field}
 use Rattle.frames.specs.Frames.{newFrame, Framed}
 use Rattle.frames.proofs.Bytes.{Whole, framed-whole, new-framed}
 use Rattle.frames.proofs.Widths.{field-below}
+use Rattle.lines.specs.declared.kind.Kind.{Kind}
+use Rattle.lines.specs.declared.kind.Kind.the-variants.{Load, Add, Shift, Tighten, Certify, Search}
+use Rattle.lines.specs.declared.kind.NewKind.{NewKind}
+use Rattle.lines.specs.declared.kind.NewKind.the-variants.{Known, NoSuch}
 use Rattle.lines.specs.declared.refusal.Refusal.{Refusal}
 use Rattle.lines.specs.declared.request.Verdict.{Verdict}
 use Rattle.lines.specs.declared.request.Verdict.the-variants.{Fine, Declined}
 use Rattle.lines.specs.declared.request.Request.{Request}
-use Rattle.lines.specs.declared.request.Request.the-variants.{Load, Add, Shift, Tighten, Certify, Search}
 use Rattle.lines.specs.declared.request.Line.{Line}
 use Rattle.lines.specs.declared.request.Line.the-variants.{Asked, Refused}
+use Rattle.lines.specs.Kinds.{newKind, needsStudy, requestKind}
 use Rattle.lines.specs.Layout.{kindOf, weightWidth, weightsAt, addTrain, addChoice}
-use Rattle.lines.specs.Verdicts.{loadVerdict, loadRequest}
-use Rattle.reader.specs.Reading.{concluded, addVerdict, addRequest, moveCount, weightCount, shiftVerdict, shiftRequest, tightenVerdict, certifyVerdict, certifyRequest, searchVerdict, searchRequest, studyLine, kindLine, framedLine, lineOf}
+use Rattle.reader.specs.Reading.{concluded, kindVerdict, kindRequest, studyLine, newKindLine, kindLine, framedLine, lineOf}
 use Rattle.reader.proofs.Accepted.{FineAdd, FineCertify}
-
--- a request that a line makes of a block: its fields are the line's, and they were judged fine. All kinds but a load need a loaded study
-abbrev pub Makes : List ℕ → List ℤ → Request → Type 0
-Makes l b (Load q) = (Load q ≡ loadRequest l) × (loadVerdict l ≡ Fine)
-Makes l b (Add q) = (Add q ≡ addRequest l) × (addVerdict l b ≡ Fine) × (fresh b ≡ false)
-Makes l b (Shift q) = (Shift q ≡ shiftRequest (trains b) (moveCount b)) × (shiftVerdict l (trains b) (moveCount b) ≡ Fine) × (fresh b ≡ false)
-Makes l b Tighten = (tightenVerdict l ≡ Fine) × (fresh b ≡ false)
-Makes l b (Certify q) = (Certify q ≡ certifyRequest l (weightCount b)) × (certifyVerdict l (weightCount b) ≡ Fine) × (fresh b ≡ false)
-Makes l b (Search q) = (Search q ≡ searchRequest l) × (searchVerdict l ≡ Fine) × (fresh b ≡ false)
 
 -- a line that concludes with a request made it
 concluded-asked : (v : Verdict) (r q : Request) → concluded v r ≡ Asked q → (v ≡ Fine) × (r ≡ q)
@@ -52,35 +45,62 @@ module _ {P : Type 0} (z : Line) where
   ways true x y e f g = f e
   ways false x y e f g = g refl e
 
+-- what an accepted line is: a frame of a kind, whose fields were judged fine and make the request; a kind that needs a study found one
+pub record Accepted (l : List ℕ) (b : List ℤ) (q : Request) : Type 0 where
+  pub framed : Framed l (bytes l)
+  pub kind : Kind
+  pub known : newKind (kindOf l) ≡ Known kind
+  pub fine : kindVerdict kind l b ≡ Fine
+  pub made : kindRequest kind l b ≡ q
+  pub loaded : needsStudy kind && fresh b ≡ false
+
 module _ (l : List ℕ) (b : List ℤ) (q : Request) where
-  made : (v : Verdict) (r : Request) → (v ≡ Fine → Makes l b r) → concluded v r ≡ Asked q → Makes l b q
-  made v r f e = let c = concluded-asked v r q e in subst (λ (s : Request). Makes l b s) (c .1) (f (c .0))
-
-  study-makes : studyLine l b ≡ Asked q → Makes l b q
+  study-accepted : Framed l (bytes l) → (k : Kind) → newKind (kindOf l) ≡ Known k → studyLine k l b ≡ Asked q → Accepted l b q
   unfolding studyLine
-  study-makes e =
-      ways (Asked q) (fresh b) _ _ e (λ f. absurd (refused-asked f))
-      (λ h. λ e. ways (Asked q) (eqb (kindOf l) 2) _ _ e (made (addVerdict l b) (addRequest l) (λ f. (refl, f, h)))
-      (λ _. λ e. ways (Asked q) (eqb (kindOf l) 3) _ _ e (made (shiftVerdict l (trains b) (moveCount b)) (shiftRequest (trains b) (moveCount b)) (λ f. (refl, f, h)))
-      (λ _. λ e. ways (Asked q) (eqb (kindOf l) 4) _ _ e (made (tightenVerdict l) Tighten (λ f. (f, h)))
-      (λ _. λ e. ways (Asked q) (eqb (kindOf l) 5) _ _ e (made (certifyVerdict l (weightCount b)) (certifyRequest l (weightCount b)) (λ f. (refl, f, h)))
-      (λ _. made (searchVerdict l) (searchRequest l) (λ f. (refl, f, h)))))))
+  study-accepted w k p e =
+      ways (Asked q) (needsStudy k && fresh b) _ _ e (λ f. absurd (refused-asked f))
+      (λ h. λ f. let c = concluded-asked (kindVerdict k l b) (kindRequest k l b) q f in record { framed = w; kind = k; known = p; fine = c .0; made = c .1; loaded = h })
 
-  kind-makes : kindLine l b ≡ Asked q → Makes l b q
+  kind-accepted : Framed l (bytes l) → kindLine l b ≡ Asked q → Accepted l b q
   unfolding kindLine
-  kind-makes e =
-      ways (Asked q) (eqb (kindOf l) 1) _ _ e (made (loadVerdict l) (loadRequest l) (λ f. (refl, f)))
-      (λ _. λ e. ways (Asked q) (leb 2 (kindOf l) && leb (kindOf l) 6) _ _ e study-makes (λ _. λ f. absurd (refused-asked f)))
-
-  -- an accepted line is a frame, of at most 19,834 characters, and makes its request
-  pub line-makes : lineOf l b ≡ Asked q → Framed l (bytes l) × Makes l b q
-  unfolding lineOf
-  line-makes e = go (newFrame l) refl e
+  kind-accepted w e = go (newKind (kindOf l)) refl e
     where
-      go : (f : NewFrame) → newFrame l ≡ f → framedLine f l b ≡ Asked q → Framed l (bytes l) × Makes l b q
+      go : (n : NewKind) → newKind (kindOf l) ≡ n → newKindLine n l b ≡ Asked q → Accepted l b q
+      go (Known k) p e = study-accepted w k p e
+      go NoSuch p e = absurd (refused-asked e)
+
+  pub line-accepted : lineOf l b ≡ Asked q → Accepted l b q
+  unfolding lineOf
+  line-accepted e = go (newFrame l) refl e
+    where
+      go : (f : NewFrame) → newFrame l ≡ f → framedLine f l b ≡ Asked q → Accepted l b q
       go Long p e = absurd (refused-asked e)
       go Broken p e = absurd (refused-asked e)
-      go (Within f) p e = let w = new-framed l f p in (record { digits = w .digits; whole = refl; short = w .short }, kind-makes e)
+      go (Within f) p e = let w = new-framed l f p in kind-accepted (record { digits = w .digits; whole = refl; short = w .short }) e
+
+-- the request of each kind is of that kind
+pub request-kind : (k : Kind) (l : List ℕ) (b : List ℤ) → requestKind (kindRequest k l b) ≡ k
+request-kind Load l b = refl
+request-kind Add l b = refl
+request-kind Shift l b = refl
+request-kind Tighten l b = refl
+request-kind Certify l b = refl
+request-kind Search l b = refl
+
+-- a request that a line makes of a block, by the request's kind: its fields are the line's, they were judged fine, and a kind that needs a study found one
+abbrev pub Makes : List ℕ → List ℤ → Request → Type 0
+Makes l b q = (q ≡ kindRequest (requestKind q) l b) × (kindVerdict (requestKind q) l b ≡ Fine) × (needsStudy (requestKind q) && fresh b ≡ false)
+
+module _ (l : List ℕ) (b : List ℤ) (q : Request) where
+  -- an accepted line is a frame, of at most 19,834 characters, and makes its request
+  pub line-makes : lineOf l b ≡ Asked q → Framed l (bytes l) × Makes l b q
+  line-makes e =
+      let a = line-accepted l b q e in (
+        a .framed,
+        subst (λ (r : Request). Makes l b r) (a .made)
+            (subst (λ (j : Kind). (kindRequest (a .kind) l b ≡ kindRequest j l b) × (kindVerdict j l b ≡ Fine) × (needsStudy j && fresh b ≡ false))
+            (sym (request-kind (a .kind) l b)) (refl, a .fine, a .loaded)),
+      )
 
 -- ---- what the kinds' fields are then
 

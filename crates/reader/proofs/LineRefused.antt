@@ -8,15 +8,19 @@ use lib.Dec.{leb, eqb}
 use lib.IntN.{ℤ}
 use Rattle.units.specs.Units.{scaleMin, scaleMax}
 use Rattle.tables.specs.Block.{maxTrains, maxChoices, maxPairs, maxCost, trains, size}
-use Rattle.tables.specs.Ranges.{maxMove, maxWhole, maxBudget}
+use Rattle.tables.specs.Ranges.{maxMove, maxFullWeight, maxBudget}
 use Rattle.tables.specs.WellFormed.{fresh}
 use Rattle.frames.specs.declared.frame.NewFrame.{NewFrame}
 use Rattle.frames.specs.declared.frame.NewFrame.the-variants.{Within, Long, Broken}
 use Rattle.frames.specs.Frames.{newFrame}
 use Rattle.frames.specs.Digits.{bytes}
 use Rattle.frames.specs.Fields.{field}
+use Rattle.lines.specs.declared.kind.Kind.{Kind}
+use Rattle.lines.specs.declared.kind.Kind.the-variants.{Load, Add, Shift, Tighten, Certify, Search}
+use Rattle.lines.specs.declared.kind.NewKind.{NewKind}
+use Rattle.lines.specs.declared.kind.NewKind.the-variants.{Known, NoSuch}
 use Rattle.lines.specs.declared.refusal.Refusal.{Refusal}
-use Rattle.lines.specs.declared.refusal.Refusal.the-variants.{Fields, Range, Cost, Pair, Absent, Move, Whole, Budget}
+use Rattle.lines.specs.declared.refusal.Refusal.the-variants.{Fields, Range, Cost, Pair, Absent, Move, FullWeight, Budget}
 use Rattle.lines.specs.declared.request.Rule.{Rule}
 use Rattle.lines.specs.declared.request.Rule.the-variants.{Any, Between, Around}
 use Rattle.lines.specs.declared.request.Verdict.{Verdict}
@@ -24,10 +28,11 @@ use Rattle.lines.specs.declared.request.Verdict.the-variants.{Fine, Declined}
 use Rattle.lines.specs.declared.request.Request.{Request}
 use Rattle.lines.specs.declared.request.Line.{Line}
 use Rattle.lines.specs.declared.request.Line.the-variants.{Asked, Refused}
-use Rattle.lines.specs.Layout.{kindOf, costWidth, moveWidth, weightWidth, addTrain, liftsAt, movesAt, weightsAt, budgetWidth, loadTrains, loadPairs, sizesAt, choicesAt, choiceCount, pairCountAt, entryCount, pairAt}
+use Rattle.lines.specs.Kinds.{newKind, needsStudy}
+use Rattle.lines.specs.Layout.{kindWidth, kindOf, costWidth, moveWidth, weightWidth, addTrain, liftsAt, movesAt, weightsAt, budgetWidth, loadTrains, loadPairs, sizesAt, choicesAt, choiceCount, pairCountAt, entryCount, pairAt}
 use Rattle.lines.specs.Refusals.{refusalNumber}
 use Rattle.lines.specs.Verdicts.{then, firstOf, unless, obeys, fieldVerdict, runVerdict, endVerdict, pairOrdered, pairVerdict, headVerdict, restVerdict, loadVerdict}
-use Rattle.reader.specs.Reading.{concluded, addVerdict, moveCount, weightCount, shiftVerdict, tightenVerdict, certifyVerdict, searchVerdict, studyLine, kindLine, framedLine, lineOf}
+use Rattle.reader.specs.Reading.{addVerdict, moveCount, weightCount, shiftVerdict, certifyVerdict, searchVerdict, concluded, kindVerdict, studyLine, newKindLine, kindLine, framedLine, lineOf}
 
 -- 'Order: 17, 16, .. Then fields .. Then 10, 12 or 14': the numbers that reading a line gives are the others
 abbrev pub ofReading : ℕ → Bool
@@ -105,7 +110,7 @@ module _ (l : List ℕ) where
   reads-certify : (weights : ℕ) → Reads (certifyVerdict l weights)
   unfolding certifyVerdict
   reads-certify weights =
-      reads-then (reads-field 1 weightWidth (Between 1 maxWhole) Whole refl)
+      reads-then (reads-field 1 weightWidth (Between 1 maxFullWeight) FullWeight refl)
       (reads-then (reads-run weightsAt weightWidth weights Any Fields refl) (reads-end (weightsAt + weightWidth * weights)))
 
   reads-search : Reads (searchVerdict l)
@@ -128,20 +133,25 @@ own-cond true x y p q = p
 own-cond false x y p q = q
 
 module _ (l : List ℕ) (b : List ℤ) where
-  own-study : OwnLine (studyLine l b)
+  reads-kind : (k : Kind) → Reads (kindVerdict k l b)
+  reads-kind Load = reads-load l
+  reads-kind Add = reads-add l b
+  reads-kind Shift = reads-shift l (trains b) (moveCount b)
+  reads-kind Tighten = reads-end l kindWidth
+  reads-kind Certify = reads-certify l (weightCount b)
+  reads-kind Search = reads-search l
+
+  own-study : (k : Kind) → OwnLine (studyLine k l b)
   unfolding studyLine
-  own-study =
-      own-cond (fresh b) _ _ refl
-      (own-cond (eqb (kindOf l) 2) _ _ (own-concluded (addVerdict l b) _ (reads-add l b))
-      (own-cond (eqb (kindOf l) 3) _ _ (own-concluded (shiftVerdict l (trains b) (moveCount b)) _ (reads-shift l (trains b) (moveCount b)))
-      (own-cond (eqb (kindOf l) 4) _ _ (own-concluded (tightenVerdict l) _ (reads-end l 1))
-      (own-cond (eqb (kindOf l) 5) _ _ (own-concluded (certifyVerdict l (weightCount b)) _ (reads-certify l (weightCount b)))
-      (own-concluded (searchVerdict l) _ (reads-search l))))))
+  own-study k = own-cond (needsStudy k && fresh b) _ _ refl (own-concluded (kindVerdict k l b) _ (reads-kind k))
 
   own-kind : OwnLine (kindLine l b)
   unfolding kindLine
-  own-kind =
-      own-cond (eqb (kindOf l) 1) _ _ (own-concluded (loadVerdict l) _ (reads-load l)) (own-cond (leb 2 (kindOf l) && leb (kindOf l) 6) _ _ own-study refl)
+  own-kind = go (newKind (kindOf l))
+    where
+      go : (n : NewKind) → OwnLine (newKindLine n l b)
+      go (Known k) = own-study k
+      go NoSuch = refl
 
   own-line : OwnLine (lineOf l b)
   unfolding lineOf

@@ -2,18 +2,21 @@
 use mathlib.Core.Bool.{cond, _&&_}
 use mathlib.Core.List.{List}
 use Prim.Native.Nat.{ℕ, _+_, _*_, _-_}
-use lib.Dec.{leb, eqb}
 use lib.IntN.{ℤ}
 use Rattle.units.specs.Units.{thePoints}
 use Rattle.tables.specs.Block.{maxCost, trains, pairs, size}
 use Rattle.tables.specs.Runs.{choicesBefore, entriesBefore, movesBefore}
-use Rattle.tables.specs.Ranges.{maxMove, maxWhole, maxBudget}
+use Rattle.tables.specs.Ranges.{maxMove, maxFullWeight, maxBudget}
 use Rattle.tables.specs.WellFormed.{fresh}
 use Rattle.frames.specs.declared.frame.NewFrame.{NewFrame}
 use Rattle.frames.specs.declared.frame.NewFrame.the-variants.{Within, Long, Broken}
 use Rattle.frames.specs.Digits.{bytes}
 use Rattle.frames.specs.Frames.{newFrame}
-use Rattle.lines.specs.declared.refusal.Refusal.the-variants.{Characters, TooLong, NoKind, FreshBlock, Fields, Cost, Absent, Move, Whole, Budget}
+use Rattle.lines.specs.declared.refusal.Refusal.the-variants.{Characters, TooLong, NoKind, FreshBlock, Fields, Cost, Absent, Move, FullWeight, Budget}
+use Rattle.lines.specs.declared.kind.Kind.{Kind}
+use Rattle.lines.specs.declared.kind.Kind.the-variants as kind
+use Rattle.lines.specs.declared.kind.NewKind.{NewKind}
+use Rattle.lines.specs.declared.kind.NewKind.the-variants.{Known, NoSuch}
 use Rattle.lines.specs.declared.request.Verdict.{Verdict}
 use Rattle.lines.specs.declared.request.Verdict.the-variants.{Fine, Declined}
 use Rattle.lines.specs.declared.request.Rule.the-variants.{Any, Between, Around}
@@ -21,10 +24,15 @@ use Rattle.lines.specs.declared.request.Request.{Request}
 use Rattle.lines.specs.declared.request.Request.the-variants.{Add, Shift, Tighten, Certify, Search}
 use Rattle.lines.specs.declared.request.Line.{Line}
 use Rattle.lines.specs.declared.request.Line.the-variants.{Asked, Refused}
-use Rattle.lines.specs.Layout.{kindOf, costWidth, moveWidth, weightWidth, addTrain, addChoice, addPoints, liftsAt, movesAt, certifyWhole, weightsAt, budgetWidth, searchBudget}
+use Rattle.lines.specs.Kinds.{newKind, needsStudy}
+use Rattle.lines.specs.Layout.{kindWidth, kindOf, costWidth, moveWidth, weightWidth, addTrain, addChoice, addPoints, liftsAt, movesAt, certifyFullWeight, weightsAt, budgetWidth, searchBudget}
 use Rattle.lines.specs.Verdicts.{then, fieldVerdict, runVerdict, endVerdict, run, loadVerdict, loadRequest}
 
 -- ---- the kinds other than load, on a block that holds a study
+
+-- a kind without fields: '04 tighten: no fields'
+abbrev pub bareVerdict : List ℕ → Verdict
+bareVerdict l = endVerdict (bytes l) kindWidth
 
 -- 9: 'train or choice absent'
 unfoldable pub addVerdict : List ℕ → List ℤ → Verdict
@@ -59,17 +67,14 @@ shiftVerdict l n moves =
 abbrev pub shiftRequest : ℕ → ℕ → Request
 shiftRequest n moves = Shift (record { lifts = run liftsAt n; moves = run (movesAt n) moves })
 
-abbrev pub tightenVerdict : List ℕ → Verdict
-tightenVerdict l = endVerdict (bytes l) 1
-
 -- W, and so many weights
 unfoldable pub certifyVerdict : List ℕ → ℕ → Verdict
 certifyVerdict l weights =
-    then (fieldVerdict l 1 weightWidth (Between 1 maxWhole) Whole)
+    then (fieldVerdict l 1 weightWidth (Between 1 maxFullWeight) FullWeight)
     (then (runVerdict l weightsAt weightWidth weights Any Fields) (endVerdict (bytes l) (weightsAt + weightWidth * weights)))
 
 abbrev pub certifyRequest : List ℕ → ℕ → Request
-certifyRequest l weights = Certify (record { whole = certifyWhole l; weights = run weightsAt weights })
+certifyRequest l weights = Certify (record { full = certifyFullWeight l; weights = run weightsAt weights })
 
 unfoldable pub searchVerdict : List ℕ → Verdict
 searchVerdict l = then (fieldVerdict l 1 budgetWidth (Between 1 maxBudget) Budget) (endVerdict (bytes l) 5)
@@ -83,36 +88,37 @@ abbrev pub concluded : Verdict → Request → Line
 concluded Fine q = Asked q
 concluded (Declined r) q = Refused r
 
-abbrev pub loadLine : List ℕ → Line
-loadLine l = concluded (loadVerdict l) (loadRequest l)
+-- the fields of each kind, judged, and the request that they make
+abbrev pub kindVerdict : Kind → List ℕ → List ℤ → Verdict
+kindVerdict kind.Load l b = loadVerdict l
+kindVerdict kind.Add l b = addVerdict l b
+kindVerdict kind.Shift l b = shiftVerdict l (trains b) (moveCount b)
+kindVerdict kind.Tighten l b = bareVerdict l
+kindVerdict kind.Certify l b = certifyVerdict l (weightCount b)
+kindVerdict kind.Search l b = searchVerdict l
 
-abbrev pub addLine : List ℕ → List ℤ → Line
-addLine l b = concluded (addVerdict l b) (addRequest l)
+abbrev pub kindRequest : Kind → List ℕ → List ℤ → Request
+kindRequest kind.Load l b = loadRequest l
+kindRequest kind.Add l b = addRequest l
+kindRequest kind.Shift l b = shiftRequest (trains b) (moveCount b)
+kindRequest kind.Tighten l b = Tighten
+kindRequest kind.Certify l b = certifyRequest l (weightCount b)
+kindRequest kind.Search l b = searchRequest l
 
-abbrev pub shiftLine : List ℕ → List ℤ → Line
-shiftLine l b = concluded (shiftVerdict l (trains b) (moveCount b)) (shiftRequest (trains b) (moveCount b))
+abbrev pub fieldsLine : Kind → List ℕ → List ℤ → Line
+fieldsLine k l b = concluded (kindVerdict k l b) (kindRequest k l b)
 
-abbrev pub tightenLine : List ℕ → Line
-tightenLine l = concluded (tightenVerdict l) Tighten
-
-abbrev pub certifyLine : List ℕ → List ℤ → Line
-certifyLine l b = concluded (certifyVerdict l (weightCount b)) (certifyRequest l (weightCount b))
-
-abbrev pub searchLine : List ℕ → Line
-searchLine l = concluded (searchVerdict l) (searchRequest l)
-
--- kinds 02 to 06; 4: 'on a fresh block'
-unfoldable pub studyLine : List ℕ → List ℤ → Line
-studyLine l b =
-    cond (fresh b) (Refused FreshBlock)
-    (cond (eqb (kindOf l) 2) (addLine l b)
-    (cond (eqb (kindOf l) 3) (shiftLine l b)
-    (cond (eqb (kindOf l) 4) (tightenLine l)
-    (cond (eqb (kindOf l) 5) (certifyLine l b) (searchLine l)))))
+-- 4: a kind that needs a study, 'on a fresh block'
+unfoldable pub studyLine : Kind → List ℕ → List ℤ → Line
+studyLine k l b = cond (needsStudy k && fresh b) (Refused FreshBlock) (fieldsLine k l b)
 
 -- 3: 'no such kind'
+abbrev pub newKindLine : NewKind → List ℕ → List ℤ → Line
+newKindLine (Known k) l b = studyLine k l b
+newKindLine NoSuch l b = Refused NoKind
+
 unfoldable pub kindLine : List ℕ → List ℤ → Line
-kindLine l b = cond (eqb (kindOf l) 1) (loadLine l) (cond (leb 2 (kindOf l) && leb (kindOf l) 6) (studyLine l b) (Refused NoKind))
+kindLine l b = newKindLine (newKind (kindOf l)) l b
 
 -- 'Order: .. 2, 1, 3, 4. Then fields from left to right'
 abbrev pub framedLine : NewFrame → List ℕ → List ℤ → Line

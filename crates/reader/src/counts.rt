@@ -19,34 +19,26 @@ pub fn choice_count(block: &[i64]) -> usize
     count
 }
 
-// How many moves the pairs ask for.
-pub fn move_count(block: &[i64]) -> usize
-    requires { ⌜ Study (now block) ⌝ }
-    ensures { λ r. ⌜ r ≡ moveCount (now (block .entry)) ⌝ }
-{
-    let m = block::pairs(block);
-    let mut count = 0;
-    let mut k = 0;
-    while k < m {
-        count += block::size(block, block::first(block, k))
-            + block::size(block, block::second(block, k));
-        k += 1;
-    }
-    count
+// How many fields the pairs ask for: moves of a shift, and weights of a certificate.
+pub struct PairFields {
+    pub moves: usize,
+    pub weights: usize,
 }
 
-// How many weights the pairs ask for.
-pub fn entry_count(block: &[i64]) -> usize
+pub fn pair_fields(block: &[i64]) -> PairFields
     requires { ⌜ Study (now block) ⌝ }
-    ensures { λ r. ⌜ r ≡ heldEntries (now (block .entry)) ⌝ }
+    ensures { λ r. ⌜ (r .moves ≡ moveCount (now (block .entry))) × (r .weights ≡ heldEntries (now (block .entry))) ⌝ }
 {
     let m = block::pairs(block);
-    let mut count = 0;
+    let mut moves = 0;
+    let mut weights = 0;
     let mut k = 0;
     while k < m {
-        count += block::size(block, block::first(block, k))
-            * block::size(block, block::second(block, k));
+        let first = block::size(block, block::first(block, k));
+        let second = block::size(block, block::second(block, k));
+        moves += first + second;
+        weights += first * second;
         k += 1;
     }
-    count
+    PairFields { moves, weights }
 }

@@ -1,18 +1,21 @@
 // Document 01, 'Lines' and 'What is declined': from a line and a well-formed block to what the line asks, or the first reason to decline it.
 ghost use mathlib.Core.Path.{_≡_};
-ghost use mathlib.Core.Bool.{true};
+ghost use mathlib.Core.Bool.{true, _&&_};
 ghost use Prim.Native.Nat.{_-_, _<_, _≤_, _^_};
 ghost use Rattle.tables.specs.Block.{maxTrains};
 ghost use Rattle.tables.specs.WellFormed.{Study, fresh, wellFormed};
 ghost use Rattle.frames.specs.Frames.{Framed};
 ghost use Rattle.lines.specs.declared.refusal.Refusal.the-variants.{Absent};
+ghost use Rattle.lines.specs.declared.kind.Kind.the-variants as kinds;
 ghost use Rattle.lines.specs.declared.request.Rule.the-variants.{Between};
-ghost use Rattle.lines.specs.Layout.{kindOf};
-ghost use Rattle.lines.specs.Verdicts.{fieldVerdict};
-ghost use Rattle.reader.specs.Reading.{loadLine, addVerdict, addLine, shiftVerdict, shiftLine, tightenLine, certifyVerdict, certifyLine, searchVerdict, searchLine, studyLine, kindLine, lineOf};
+ghost use Rattle.lines.specs.Kinds.{needsStudy};
+ghost use Rattle.lines.specs.Verdicts.{fieldVerdict, loadVerdict, loadRequest};
+ghost use Rattle.reader.specs.Reading.{bareVerdict, addVerdict, shiftVerdict, certifyVerdict, searchVerdict, searchRequest, concluded, fieldsLine, studyLine, kindLine, lineOf};
 use frames::fields;
 use frames::frame::Frame;
 use frames::frame::NewFrame;
+use lines::kind::Kind;
+use lines::kind::NewKind;
 use lines::load;
 use lines::refusal::Refusal;
 use lines::request::Add;
@@ -49,35 +52,64 @@ fn read_kind(line: &[u8], bytes: usize, block: &[i64], known: Block) -> Line
     requires { ⌜ Framed (now line) bytes × (wellFormed (now block) ≡ true) × (known .fresh ≡ fresh (now block)) ⌝ }
     ensures { λ r. ⌜ r ≡ kindLine (now (line .entry)) (now (block .entry)) ⌝ }
 {
-    let kind = fields::field(line, 0, 1);
-    match kind {
-        1 => read_load(line, bytes),
-        2..=6 => read_study(line, bytes, kind, block, known),
-        _ => Line::Refused(Refusal::NoKind),
+    match Kind::new(fields::field(line, 0, Kind::WIDTH)) {
+        NewKind::Known(kind) => read_study(line, bytes, kind, block, known),
+        NewKind::NoSuch => Line::Refused(Refusal::NoKind),
     }
 }
 
-// The kinds that need a loaded study.
-fn read_study(line: &[u8], bytes: usize, kind: u64, block: &[i64], known: Block) -> Line
-    requires { ⌜ Framed (now line) bytes × (wellFormed (now block) ≡ true) × (kind ≡ kindOf (now line)) × (known .fresh ≡ fresh (now block)) ⌝ }
-    ensures { λ r. ⌜ r ≡ studyLine (now (line .entry)) (now (block .entry)) ⌝ }
+// Some kinds need a loaded study.
+fn read_study(line: &[u8], bytes: usize, kind: Kind, block: &[i64], known: Block) -> Line
+    requires { ⌜ Framed (now line) bytes × (wellFormed (now block) ≡ true) × (known .fresh ≡ fresh (now block)) ⌝ }
+    ensures { λ r. ⌜ r ≡ studyLine kind (now (line .entry)) (now (block .entry)) ⌝ }
 {
-    if known.is_fresh() {
+    if lacks_study(kind, known) {
         return Line::Refused(Refusal::FreshBlock);
     }
+    read_fields(line, bytes, kind, block)
+}
+
+// Whether the kind needs a study and the block is fresh.
+fn lacks_study(kind: Kind, known: Block) -> bool
+    ensures { λ r. ⌜ r ≡ needsStudy kind && known .fresh ⌝ }
+{
+    if kind.needs_study() {
+        known.is_fresh()
+    } else {
+        false
+    }
+}
+
+// The fields of each kind.
+fn read_fields(line: &[u8], bytes: usize, kind: Kind, block: &[i64]) -> Line
+    requires { ⌜ Framed (now line) bytes × (needsStudy kind ≡ true → Study (now block)) ⌝ }
+    ensures { λ r. ⌜ r ≡ fieldsLine kind (now (line .entry)) (now (block .entry)) ⌝ }
+{
     match kind {
-        2 => read_add(line, bytes, block),
-        3 => read_shift(line, bytes, block),
-        4 => read_tighten(line, bytes),
-        5 => read_certify(line, bytes, block),
-        _ => read_search(line, bytes),
+        Kind::Load => read_load(line, bytes),
+        Kind::Add => read_add(line, bytes, block),
+        Kind::Shift => read_shift(line, bytes, block),
+        Kind::Tighten => read_bare(line, bytes, Request::Tighten),
+        Kind::Certify => read_certify(line, bytes, block),
+        Kind::Search => read_search(line, bytes),
+    }
+}
+
+// A kind without fields.
+fn read_bare(line: &[u8], bytes: usize, request: Request) -> Line
+    requires { ⌜ Framed (now line) bytes ⌝ }
+    ensures { λ r. ⌜ r ≡ concluded (bareVerdict (now (line .entry))) request ⌝ }
+{
+    match verdict::end_verdict(bytes, Kind::WIDTH) {
+        Verdict::Declined(r) => Line::Refused(r),
+        Verdict::Fine => Line::Asked(request),
     }
 }
 
 // A load.
 fn read_load(line: &[u8], bytes: usize) -> Line
     requires { ⌜ Framed (now line) bytes ⌝ }
-    ensures { λ r. ⌜ r ≡ loadLine (now (line .entry)) ⌝ }
+    ensures { λ r. ⌜ r ≡ concluded (loadVerdict (now (line .entry))) (loadRequest (now (line .entry))) ⌝ }
 {
     match load::load_verdict(line, bytes) {
         Verdict::Declined(r) => Line::Refused(r),
@@ -131,7 +163,7 @@ fn add_verdict(line: &[u8], bytes: usize, block: &[i64]) -> Verdict
 // An added cost.
 fn read_add(line: &[u8], bytes: usize, block: &[i64]) -> Line
     requires { ⌜ Framed (now line) bytes × Study (now block) ⌝ }
-    ensures { λ r. ⌜ r ≡ addLine (now (line .entry)) (now (block .entry)) ⌝ }
+    ensures { λ r. ⌜ r ≡ fieldsLine kinds.Add (now (line .entry)) (now (block .entry)) ⌝ }
 {
     match add_verdict(line, bytes, block) {
         Verdict::Declined(r) => Line::Refused(r),
@@ -179,10 +211,10 @@ fn shift_verdict(line: &[u8], bytes: usize, n: usize, moves: usize) -> Verdict
 // A shift.
 fn read_shift(line: &[u8], bytes: usize, block: &[i64]) -> Line
     requires { ⌜ Framed (now line) bytes × Study (now block) ⌝ }
-    ensures { λ r. ⌜ r ≡ shiftLine (now (line .entry)) (now (block .entry)) ⌝ }
+    ensures { λ r. ⌜ r ≡ fieldsLine kinds.Shift (now (line .entry)) (now (block .entry)) ⌝ }
 {
     let n = block::trains(block);
-    let count = counts::move_count(block);
+    let count = counts::pair_fields(block).moves;
     let lifts = Run {
         at: Shift::LIFTS_AT,
         count: n,
@@ -197,32 +229,21 @@ fn read_shift(line: &[u8], bytes: usize, block: &[i64]) -> Line
     }
 }
 
-// A tightening.
-fn read_tighten(line: &[u8], bytes: usize) -> Line
-    requires { ⌜ Framed (now line) bytes ⌝ }
-    ensures { λ r. ⌜ r ≡ tightenLine (now (line .entry)) ⌝ }
-{
-    match verdict::end_verdict(bytes, 1) {
-        Verdict::Declined(r) => Line::Refused(r),
-        Verdict::Fine => Line::Asked(Request::Tighten),
-    }
-}
-
 // W and the weights.
 fn certify_verdict(line: &[u8], bytes: usize, count: usize) -> Verdict
     requires { ⌜ Framed (now line) bytes × (count < 2 ^ 32) ⌝ }
     ensures { λ r. ⌜ r ≡ certifyVerdict (now (line .entry)) count ⌝ }
 {
-    let whole = verdict::field_verdict(
+    let full = verdict::field_verdict(
         line,
         bytes,
         1,
         Certify::WEIGHT_WIDTH,
-        Rule::Between(1, Certify::WHOLE),
-        Refusal::Whole,
+        Rule::Between(1, Certify::FULL_WEIGHT),
+        Refusal::FullWeight,
     );
-    if !whole.is_fine() {
-        return whole;
+    if !full.is_fine() {
+        return full;
     }
     let weights = verdict::run_verdict(
         line,
@@ -242,13 +263,13 @@ fn certify_verdict(line: &[u8], bytes: usize, count: usize) -> Verdict
 // A certificate.
 fn read_certify(line: &[u8], bytes: usize, block: &[i64]) -> Line
     requires { ⌜ Framed (now line) bytes × Study (now block) ⌝ }
-    ensures { λ r. ⌜ r ≡ certifyLine (now (line .entry)) (now (block .entry)) ⌝ }
+    ensures { λ r. ⌜ r ≡ fieldsLine kinds.Certify (now (line .entry)) (now (block .entry)) ⌝ }
 {
-    let count = counts::choice_count(block) + counts::entry_count(block);
+    let count = counts::choice_count(block) + counts::pair_fields(block).weights;
     match certify_verdict(line, bytes, count) {
         Verdict::Declined(r) => Line::Refused(r),
         Verdict::Fine => Line::Asked(Request::Certify(Certify {
-            whole: fields::field(line, 1, Certify::WEIGHT_WIDTH),
+            full: fields::field(line, 1, Certify::WEIGHT_WIDTH),
             weights: Run {
                 at: Certify::WEIGHTS_AT,
                 count,
@@ -279,7 +300,7 @@ fn search_verdict(line: &[u8], bytes: usize) -> Verdict
 // A search.
 fn read_search(line: &[u8], bytes: usize) -> Line
     requires { ⌜ Framed (now line) bytes ⌝ }
-    ensures { λ r. ⌜ r ≡ searchLine (now (line .entry)) ⌝ }
+    ensures { λ r. ⌜ r ≡ concluded (searchVerdict (now (line .entry))) (searchRequest (now (line .entry))) ⌝ }
 {
     match search_verdict(line, bytes) {
         Verdict::Declined(r) => Line::Refused(r),

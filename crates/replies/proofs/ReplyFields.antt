@@ -25,10 +25,10 @@ pub bound-fields : (kind : ℕ) (b : List ℤ) → fieldDigits 1 (replyKind kind
 unfolding boundReply
 bound-fields kind b = simp digits-first
 
-pub certify-fields : (whole : ℕ) (c : Ceiling)
-    → fieldDigits 1 (replyKind 5) [] ++ fieldDigits 1 (flag (c .reached)) [] ++ fieldDigits 8 (c .weighted) [] ++ fieldDigits 3 whole [] ≡ certifyReply whole c
+pub certify-fields : (fullWeight : ℕ) (c : Ceiling)
+    → fieldDigits 1 (replyKind 5) [] ++ fieldDigits 1 (flag (c .reached)) [] ++ fieldDigits 8 (c .weighted) [] ++ fieldDigits 3 fullWeight [] ≡ certifyReply fullWeight c
 unfolding certifyReply
-certify-fields whole c = simp digits-first
+certify-fields fullWeight c = simp digits-first
 
 -- ---- the plan
 
@@ -78,15 +78,15 @@ bound-length kind b =
       digits-length figureWidth (boundOf b) [],
     )
 
-pub certify-length : (whole : ℕ) (c : Ceiling) → length (certifyReply whole c) ≡ 26
+pub certify-length : (fullWeight : ℕ) (c : Ceiling) → length (certifyReply fullWeight c) ≡ 26
 unfolding certifyReply
-certify-length whole c =
+certify-length fullWeight c =
     omega (
       arith,
-      digits-length 1 (replyKind 5) (fieldDigits 1 (flag (c .reached)) (fieldDigits 8 (c .weighted) (fieldDigits 3 whole []))),
-      digits-length 1 (flag (c .reached)) (fieldDigits 8 (c .weighted) (fieldDigits 3 whole [])),
-      digits-length 8 (c .weighted) (fieldDigits 3 whole []),
-      digits-length 3 whole [],
+      digits-length 1 (replyKind 5) (fieldDigits 1 (flag (c .reached)) (fieldDigits 8 (c .weighted) (fieldDigits 3 fullWeight []))),
+      digits-length 1 (flag (c .reached)) (fieldDigits 8 (c .weighted) (fieldDigits 3 fullWeight [])),
+      digits-length 8 (c .weighted) (fieldDigits 3 fullWeight []),
+      digits-length 3 fullWeight [],
     )
 
 pub search-length : (n : ℕ) (f : Found) → length (searchReply n f) ≡ 24 + 2 * n

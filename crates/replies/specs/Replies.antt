@@ -40,7 +40,7 @@ flag t = cond t 1 0
 
 -- 'Certify: 85, 01 if reached else 00, E (8), W (3)'
 unfoldable pub certifyReply : ℕ → Ceiling → List ℕ
-certifyReply whole c = fieldDigits 1 (replyKind 5) (fieldDigits 1 (flag (c .reached)) (fieldDigits 8 (c .weighted) (fieldDigits 3 whole [])))
+certifyReply fullWeight c = fieldDigits 1 (replyKind 5) (fieldDigits 1 (flag (c .reached)) (fieldDigits 8 (c .weighted) (fieldDigits 3 fullWeight [])))
 
 -- 'one byte a train': the choices of n trains, from train i on
 unfoldable pub planDigits : ℕ → ℕ → (ℕ → ℕ) → List ℕ

@@ -55,14 +55,14 @@ fn flag(t: bool) -> u64
 }
 
 // Writes what a certificate shows.
-pub fn write_certify(reply: &mut [u8], whole: u64, c: Ceiling) -> usize
+pub fn write_certify(reply: &mut [u8], full: u64, c: Ceiling) -> usize
     requires { ⌜ minBuffer ≤ length (now reply) ⌝ }
-    ensures { λ n. ⌜ Wrote (now (reply .entry)) (certifyReply whole c) (now (reply .exit)) n ⌝ }
+    ensures { λ n. ⌜ Wrote (now (reply .entry)) (certifyReply full c) (now (reply .exit)) n ⌝ }
 {
     let kind_end = write::put_field(reply, 0, 1, REPLY_KIND + 5);
     let flag_end = write::put_field(reply, kind_end, 1, flag(c.reached));
     let weighted_end = write::put_field(reply, flag_end, 8, c.weighted);
-    write::put_field(reply, weighted_end, 3, whole)
+    write::put_field(reply, weighted_end, 3, full)
 }
 
 // The cost that a search shows.

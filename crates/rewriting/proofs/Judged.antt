@@ -16,7 +16,7 @@ use Rattle.tables.proofs.Range.{below-suc}
 use Rattle.tables.proofs.Limits.{within-pos}
 use Rattle.tables.proofs.Study.{holds-study, study-holds, SameShape}
 use Rattle.operations.specs.declared.outcome.Outcome.the-variants.{Done, PartsOutside}
-use Rattle.rewriting.specs.Outcome.{judged, judgedBlock}
+use Rattle.rewriting.specs.Judged.{judged, judgedBlock}
 use Rattle.rewriting.specs.Ends.{Ends, endsOf, SameEnds, Above, Outside, SomeEnd, constant, choice, entry}
 use Rattle.rewriting.proofs.Shape.{study-figure}
 use Rattle.rewriting.proofs.Reach.{Unmet, inside-study}

@@ -18,11 +18,11 @@ use Rattle.tables.proofs.Sum.{update-same, update-other}
 use Rattle.tables.proofs.Limits.{within-pos, choice-used, entry-used, limits-head, limits-held-choices, limits-held-entries}
 use Rattle.tables.proofs.Study.{SameShape, study-from, trains-range, size-range, first-below-second, first-below-trains, second-below-trains}
 use Rattle.tables.proofs.Plans.{same-shape-total, constant-at-most-total, choice-at-most-total, pair-at-most-total}
-use Rattle.rewriting.specs.declared.sides.Run.{Run}
+use Rattle.rewriting.specs.declared.sides.PlaceRun.{PlaceRun}
 use Rattle.rewriting.specs.declared.sides.Side.the-variants.{Rows, Columns}
-use Rattle.rewriting.specs.Moves.{Shapely, moveRun, Filled}
+use Rattle.rewriting.specs.Moves.{ShapeInRange, moveRun, NonEmpty}
 use Rattle.rewriting.proofs.Runs.{move-other}
-use Rattle.rewriting.proofs.Shape.{study-shapely, Project, line, unary, Asked, Moved, none, move}
+use Rattle.rewriting.proofs.Shape.{study-shape-in-range, Project, lane, unary, Asked, Moved, none, move}
 
 -- ---- places that no move meets
 
@@ -31,14 +31,14 @@ pub record Unmet (b : List ℤ) (p : ℕ) : Type 0 where
   pub choices : (i a : ℕ) → i < trains b → a < size b i → p ≢ heldChoicePlace i a
   pub entries : (k a c : ℕ) → k < pairs b → a < size b (first b k) → c < size b (second b k) → p ≢ heldEntryPlace k a c
 
-module _ {R : Asked} {b : List ℤ} (o : Filled b) {p : ℕ} (u : Unmet b p) where
+module _ {R : Asked} {b : List ℤ} (o : NonEmpty b) {p : ℕ} (u : Unmet b p) where
   pub moved-unmet : {n : ℕ} {c : List ℤ} → Moved R b n c → at c p ≡ at b p
   moved-unmet none = refl
   moved-unmet (move {c = c} α l j r w) = by j ∙ moved-unmet w
     where
-      by : {r : Run} → Project b r → at (moveRun r α c) p ≡ at c p
-      by (line Rows k a h q) = move-other _ α c p (u .choices (first b k) a (o .firsts k h) q) (λ i l e. u .entries k a i h q l (omega arith))
-      by (line Columns k a h q) = move-other _ α c p (u .choices (second b k) a (o .seconds k h) q) (λ i l e. u .entries k i a h l q (omega arith))
+      by : {r : PlaceRun} → Project b r → at (moveRun r α c) p ≡ at c p
+      by (lane Rows k a h q) = move-other _ α c p (u .choices (first b k) a (o .firsts k h) q) (λ i l e. u .entries k a i h q l (omega arith))
+      by (lane Columns k a h q) = move-other _ α c p (u .choices (second b k) a (o .seconds k h) q) (λ i l e. u .entries k i a h l q (omega arith))
       by (unary i h) = move-other _ α c p (u .constant) (λ a l e. u .choices i a h l (omega arith))
 
 -- the loaded costs are such places
@@ -49,7 +49,7 @@ pub record Between (from to p : ℕ) : Type 0 where
 pub record Loaded (p : ℕ) : Type 0 where
   pub table : Between loadedChoicesFrom heldChoicesFrom p ⊎ Between loadedEntriesFrom heldEntriesFrom p
 
-pub loaded-unmet : {b : List ℤ} → Shapely b → {p : ℕ} → Loaded p → Unmet b p
+pub loaded-unmet : {b : List ℤ} → ShapeInRange b → {p : ℕ} → Loaded p → Unmet b p
 loaded-unmet {b} s {p} o =
     record {
       constant = λ e. ⊎-elim (λ (w : Between loadedChoicesFrom heldChoicesFrom p). omega arith) (λ (w : Between loadedEntriesFrom heldEntriesFrom p). omega arith) (o .table);
@@ -142,7 +142,7 @@ module _ {b : List ℤ} (s : Study b) (c : List ℤ) (e : SameShape b c) (unmet 
   inside-study = study-from e s at-place
     where
       loaded : (p : ℕ) → p < blockLength → Loaded p → within (limitsAt b p) (at c p) ≡ true
-      loaded p h l = rw (unmet p (loaded-unmet (study-shapely s) l)) (s .places p h)
+      loaded p h l = rw (unmet p (loaded-unmet (study-shape-in-range s) l)) (s .places p h)
 
       at-place : (p : ℕ) → p < blockLength → (p ≡ constantPlace) ⊎ (loadedChoicesFrom ≤ p) → within (limitsAt b p) (at c p) ≡ true
       at-place p h (inl z) = rw (z, limits-head b constantPlace (omega arith)) (head-place (at c constantPlace) constant-in)

@@ -13,7 +13,7 @@ use lib.Signed.{mag}
 use Rattle.tables.specs.Block.{at}
 use Rattle.tables.proofs.Range.{below-suc}
 use Rattle.operations.proofs.Fold.{iter-ind}
-use Rattle.rewriting.specs.declared.sides.Run.{Run}
+use Rattle.rewriting.specs.declared.sides.PlaceRun.{PlaceRun}
 use Rattle.rewriting.specs.Moves.{Room, RunIn, runPlace, addAt, addRun, moveRun}
 use Rattle.rewriting.proofs.Words.{mag-plus, mag-neg}
 
@@ -23,19 +23,19 @@ room-more g r l = record { room = λ p. omega (arith, r .room p) }
 
 -- ---- a place that is in a run, and one that is not
 
-pub record Met (r : Run) (p : ℕ) : Type 0 where
+pub record Met (r : PlaceRun) (p : ℕ) : Type 0 where
   pub turn : ℕ
   pub below : turn < r .count
   pub is : p ≡ runPlace r turn
 
-abbrev pub Missed : Run → ℕ → Type 0
+abbrev pub Missed : PlaceRun → ℕ → Type 0
 Missed r p = (i : ℕ) → i < r .count → p ≢ runPlace r i
 
 -- the first n turns of a run
-abbrev pub front : ℕ → Run → Run
+abbrev pub front : ℕ → PlaceRun → PlaceRun
 front n r = record { from = r .from; step = r .step; count = n; to = r .to }
 
-pub meet : (r : Run) (p : ℕ) → Met r p ⊎ Missed r p
+pub meet : (r : PlaceRun) (p : ℕ) → Met r p ⊎ Missed r p
 meet r p = go (r .count)
   where
     go : (n : ℕ) → Met (front n r) p ⊎ Missed (front n r) p
@@ -47,11 +47,11 @@ meet r p = go (r .count)
         (λ (m : Missed (front n r) p). inr (λ i h e. ⊎-elim (λ (q : i ≡ n). ne (rw q at e)) (λ (q : i < n). m i q e) (below-suc i n h)))
         (go n))
 
-pub run-front : {b : List ℤ} {r : Run} (n : ℕ) → n ≤ r .count → RunIn b r → RunIn b (front n r)
+pub run-front : {b : List ℤ} {r : PlaceRun} (n : ℕ) → n ≤ r .count → RunIn b r → RunIn b (front n r)
 run-front n h o = record { apart = o .apart; inside = λ i l. o .inside i (omega arith); there = o .there }
 
 -- a run of a list as long
-pub run-kept : (b c : List ℤ) {r : Run} → length c ≡ length b → RunIn b r → RunIn c r
+pub run-kept : (b c : List ℤ) {r : PlaceRun} → length c ≡ length b → RunIn b r → RunIn c r
 run-kept b c e o = record { apart = o .apart; inside = λ i l. rw e (o .inside i l); there = rw e (o .there) }
 
 -- two turns of a run meet different places
@@ -70,7 +70,7 @@ at-set-other b q p z n = getD-set-other b q p z (pos 0) n
 
 -- ---- z added over a run
 
-module _ (r : Run) (z : ℤ) (b : List ℤ) where
+module _ (r : PlaceRun) (z : ℤ) (b : List ℤ) where
   pub add-length : length (addRun r z b) ≡ length b
   add-length = iter-ind (λ _ x. length x ≡ length b) (r .count) (λ i. addAt (runPlace r i) z) b refl (λ i x h e. simp length-set e)
 
@@ -127,11 +127,11 @@ add-at-room p z b h l o = record { room = λ q. by q (ℕ-discrete q p) }
 -- ---- a move
 
 -- its two steps
-pub moved-by : (r : Run) (α : ℤ) (b : List ℤ) {c d : List ℤ} {z : ℤ} → c ≡ addAt (r .to) α b → z ≡ negℤ α → d ≡ addRun r z c → d ≡ moveRun r α b
+pub moved-by : (r : PlaceRun) (α : ℤ) (b : List ℤ) {c d : List ℤ} {z : ℤ} → c ≡ addAt (r .to) α b → z ≡ negℤ α → d ≡ addRun r z c → d ≡ moveRun r α b
 unfolding moveRun
 moved-by r α b p q e = e ∙ rw (q, p)
 
-module _ (r : Run) (α : ℤ) (b : List ℤ) where
+module _ (r : PlaceRun) (α : ℤ) (b : List ℤ) where
   pub move-length : length (moveRun r α b) ≡ length b
   unfolding moveRun
   move-length = add-length r (negℤ α) (addAt (r .to) α b) ∙ length-set b (r .to) (at b (r .to) +ℤ α)

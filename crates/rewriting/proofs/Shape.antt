@@ -17,10 +17,10 @@ use Rattle.tables.specs.WellFormed.{Limits, from-to, usedIf, choiceUsed, entryU
 use Rattle.tables.proofs.Study.{study-place, trains-range, pairs-range, size-range, size-high, first-high, second-high, first-below-trains, second-below-trains, SameShape, same-trains, same-pairs, same-size, same-first, same-second}
 use Rattle.operations.specs.Fold.{iter}
 use Rattle.operations.proofs.Fold.{iter-ind}
-use Rattle.rewriting.specs.declared.sides.Run.{Run}
+use Rattle.rewriting.specs.declared.sides.PlaceRun.{PlaceRun}
 use Rattle.rewriting.specs.declared.sides.Side.{Side}
 use Rattle.rewriting.specs.declared.sides.Side.the-variants.{Rows, Columns}
-use Rattle.rewriting.specs.Moves.{Room, Shapely, RunIn, runPlace, moveRun, lineTrain, lineRun, choicesRun, project, projectUnary, Natural, Filled}
+use Rattle.rewriting.specs.Moves.{Room, ShapeInRange, RunIn, runPlace, moveRun, laneTrain, laneRun, choicesRun, project, projectUnary, NonNegative, NonEmpty}
 use Rattle.rewriting.proofs.Runs.{Missed, move-length, move-other}
 
 -- ---- a study
@@ -66,8 +66,8 @@ module _ {b : List ℤ} (s : Study b) where
       dite (decLt p blockLength) (λ (h : p < blockLength). (study-place s p h .natural, omega (arith, study-place s p h .high, limits-most b p .most)))
       (λ n. past-end b p (List·getD-eq-default b (pos 0) (omega (arith, s .whole))))
 
-  pub study-shapely : Shapely b
-  study-shapely =
+  pub study-shape-in-range : ShapeInRange b
+  study-shape-in-range =
       record {
         whole = s .whole;
         trains = trains-range s .1;
@@ -77,11 +77,11 @@ module _ {b : List ℤ} (s : Study b) where
         seconds = second-high s;
       }
 
-  pub study-filled : Filled b
-  study-filled = record { sizes = λ i h. size-range s i h .0; firsts = first-below-trains s; seconds = second-below-trains s }
+  pub study-non-empty : NonEmpty b
+  study-non-empty = record { sizes = λ i h. size-range s i h .0; firsts = first-below-trains s; seconds = second-below-trains s }
 
-  pub study-natural : Natural b
-  study-natural = record { natural = λ p. study-figure p .0; entries = λ p h. study-figure p .1 }
+  pub study-non-negative : NonNegative b
+  study-non-negative = record { natural = λ p. study-figure p .0; entries = λ p h. study-figure p .1 }
 
   pub study-room : Room b maxParts
   study-room = record { room = λ p. omega (arith, nat-room (at b p) (figure b p) (study-figure p .0), study-figure p .1) }
@@ -94,9 +94,9 @@ shape-same b = record { whole = refl; kept = λ p h n. refl }
 pub shape-then : {b c d : List ℤ} → SameShape b c → SameShape c d → SameShape b d
 shape-then e f = record { whole = f .whole ∙ e .whole; kept = λ p h n. f .kept p h n ∙ e .kept p h n }
 
-module _ {b c : List ℤ} (e : SameShape b c) (s : Shapely b) where
-  pub shapely-kept : Shapely c
-  shapely-kept =
+module _ {b c : List ℤ} (e : SameShape b c) (s : ShapeInRange b) where
+  pub shape-in-range-kept : ShapeInRange c
+  shape-in-range-kept =
       record {
         whole = e .whole ∙ s .whole;
         trains = rw (same-trains e) (s .trains);
@@ -106,18 +106,18 @@ module _ {b c : List ℤ} (e : SameShape b c) (s : Shapely b) where
         seconds = λ k h. rw (same-second e k h) (s .seconds k h);
       }
 
-  -- of a pair: how many lines each side has, and where they are
+  -- of a pair: how many lanes each side has, and where they are
   module _ (k : ℕ) (h : k < maxPairs) where
-    pub same-lines : (side : Side) → size c (lineTrain side c k) ≡ size b (lineTrain side b k)
-    same-lines Rows = ap (size c) (same-first e k h) ∙ same-size e (first b k) (s .firsts k h)
-    same-lines Columns = ap (size c) (same-second e k h) ∙ same-size e (second b k) (s .seconds k h)
+    pub same-lanes : (side : Side) → size c (laneTrain side c k) ≡ size b (laneTrain side b k)
+    same-lanes Rows = ap (size c) (same-first e k h) ∙ same-size e (first b k) (s .firsts k h)
+    same-lanes Columns = ap (size c) (same-second e k h) ∙ same-size e (second b k) (s .seconds k h)
 
-    pub same-line : (side : Side) (x : ℕ) → lineRun side c k x ≡ lineRun side b k x
-    same-line Rows x = rw (same-lines Columns, same-first e k h)
-    same-line Columns x = rw (same-lines Rows, same-second e k h)
+    pub same-lane : (side : Side) (x : ℕ) → laneRun side c k x ≡ laneRun side b k x
+    same-lane Rows x = rw (same-lanes Columns, same-first e k h)
+    same-lane Columns x = rw (same-lanes Rows, same-second e k h)
 
-  pub filled-kept : Filled b → Filled c
-  filled-kept f =
+  pub non-empty-kept : NonEmpty b → NonEmpty c
+  non-empty-kept f =
       record {
         sizes = λ i h. omega (arith, f .sizes i (omega (arith, same-trains e)), same-size e i (omega (arith, same-trains e, s .trains)));
         firsts = λ k h. omega (arith, f .firsts k (omega (arith, same-pairs e)), same-first e k (omega (arith, same-pairs e, s .pairs)), same-trains e);
@@ -126,22 +126,22 @@ module _ {b c : List ℤ} (e : SameShape b c) (s : Shapely b) where
 
 -- ---- the moves that Algorithm 1 makes on a block of this shape
 
-pub data Project (b : List ℤ) : Run → Type 0 where
-  line : (side : Side) (k x : ℕ) → k < pairs b → x < size b (lineTrain side b k) → Project b (lineRun side b k x)
+pub data Project (b : List ℤ) : PlaceRun → Type 0 where
+  lane : (side : Side) (k x : ℕ) → k < pairs b → x < size b (laneTrain side b k) → Project b (laneRun side b k x)
   unary : (i : ℕ) → i < trains b → Project b (choicesRun b i)
 
 -- a block of the same shape has the same moves
-pub project-kept : {b c : List ℤ} {r : Run} → SameShape b c → Shapely b → Project c r → Project b r
-project-kept {b} {c} e s (line side k x h q) =
+pub project-kept : {b c : List ℤ} {r : PlaceRun} → SameShape b c → ShapeInRange b → Project c r → Project b r
+project-kept {b} {c} e s (lane side k x h q) =
     let l : k < pairs b = omega (arith, same-pairs e) in
     let g : k < maxPairs = omega (arith, s .pairs) in
-    rw (same-line e s k g side x) (line side k x l (rw (same-lines e s k g side) at q))
+    rw (same-lane e s k g side x) (lane side k x l (rw (same-lanes e s k g side) at q))
 project-kept {b} {c} e s (unary i h) =
     let l : i < trains b = omega (arith, same-trains e) in
     rw (same-size e i (omega (arith, s .trains))) (unary i l)
 
 -- all its places are costs or the constant, and it goes to none of those that it comes from
-pub record Fair (r : Run) : Type 0 where
+pub record BetweenCosts (r : PlaceRun) : Type 0 where
   pub apart : 0 < r .step
   pub inside : (i : ℕ) → i < r .count → runPlace r i < blockLength
   pub there : r .to < blockLength
@@ -149,21 +149,21 @@ pub record Fair (r : Run) : Type 0 where
   pub goal : (r .to ≡ constantPlace) ⊎ (heldChoicesFrom ≤ r .to)
   pub missed : Missed r (r .to)
 
-module _ {b : List ℤ} (s : Shapely b) where
-  -- the train of a line is one of the block's
-  pub line-train : (side : Side) (k : ℕ) → k < pairs b → lineTrain side b k < maxTrains
-  line-train Rows k h = s .firsts k (omega (arith, s .pairs))
-  line-train Columns k h = s .seconds k (omega (arith, s .pairs))
+module _ {b : List ℤ} (s : ShapeInRange b) where
+  -- the train of a lane is one of the block's
+  pub lane-train : (side : Side) (k : ℕ) → k < pairs b → laneTrain side b k < maxTrains
+  lane-train Rows k h = s .firsts k (omega (arith, s .pairs))
+  lane-train Columns k h = s .seconds k (omega (arith, s .pairs))
 
-  -- and a side has no more lines than a train has choices
-  pub lines-most : (side : Side) (k : ℕ) → k < pairs b → size b (lineTrain side b k) ≤ maxChoices
-  lines-most side k h = s .sizes (lineTrain side b k) (line-train side k h)
+  -- and a side has no more lanes than a train has choices
+  pub lanes-most : (side : Side) (k : ℕ) → k < pairs b → size b (laneTrain side b k) ≤ maxChoices
+  lanes-most side k h = s .sizes (laneTrain side b k) (lane-train side k h)
 
-  pub project-fair : {r : Run} → Project b r → Fair r
-  project-fair (line Rows k x h q) =
-      let f = line-train Rows k h in
-      let d = lines-most Rows k h in
-      let e = lines-most Columns k h in
+  pub project-between-costs : {r : PlaceRun} → Project b r → BetweenCosts r
+  project-between-costs (lane Rows k x h q) =
+      let f = lane-train Rows k h in
+      let d = lanes-most Rows k h in
+      let e = lanes-most Columns k h in
       record {
         apart = omega arith;
         inside = λ i l. omega (arith, s .pairs);
@@ -172,10 +172,10 @@ module _ {b : List ℤ} (s : Shapely b) where
         goal = inr (omega arith);
         missed = λ i l z. omega arith;
       }
-  project-fair (line Columns k x h q) =
-      let f = line-train Columns k h in
-      let d = lines-most Rows k h in
-      let e = lines-most Columns k h in
+  project-between-costs (lane Columns k x h q) =
+      let f = lane-train Columns k h in
+      let d = lanes-most Rows k h in
+      let e = lanes-most Columns k h in
       record {
         apart = omega arith;
         inside = λ i l. omega (arith, s .pairs);
@@ -184,7 +184,7 @@ module _ {b : List ℤ} (s : Shapely b) where
         goal = inr (omega arith);
         missed = λ i l z. omega arith;
       }
-  project-fair (unary i h) =
+  project-between-costs (unary i h) =
       let d = s .sizes i (omega (arith, s .trains)) in
       record {
         apart = omega arith;
@@ -196,18 +196,18 @@ module _ {b : List ℤ} (s : Shapely b) where
       }
 
 -- its run, in a whole block
-pub fair-run : {r : Run} (c : List ℤ) → length c ≡ blockLength → Fair r → RunIn c r
-fair-run c e f = record { apart = f .apart; inside = λ i l. omega (arith, f .inside i l); there = omega (arith, f .there) }
+pub between-costs-run : {r : PlaceRun} (c : List ℤ) → length c ≡ blockLength → BetweenCosts r → RunIn c r
+between-costs-run c e f = record { apart = f .apart; inside = λ i l. omega (arith, f .inside i l); there = omega (arith, f .there) }
 
-pub project-run : {b : List ℤ} {r : Run} → Shapely b → Project b r → RunIn b r
-project-run {b} s p = fair-run b (s .whole) (project-fair s p)
+pub project-run : {b : List ℤ} {r : PlaceRun} → ShapeInRange b → Project b r → RunIn b r
+project-run {b} s p = between-costs-run b (s .whole) (project-between-costs s p)
 
--- a line has an entry, where every train has a choice
-pub line-filled : {b : List ℤ} → Filled b → (side : Side) (k x : ℕ) → k < pairs b → 0 < lineRun side b k x .count
-line-filled {b} f Rows k x h = f .sizes (second b k) (f .seconds k h)
-line-filled {b} f Columns k x h = f .sizes (first b k) (f .firsts k h)
+-- a lane has an entry, where every train has a choice
+pub lane-non-empty : {b : List ℤ} → NonEmpty b → (side : Side) (k x : ℕ) → k < pairs b → 0 < laneRun side b k x .count
+lane-non-empty {b} f Rows k x h = f .sizes (second b k) (f .seconds k h)
+lane-non-empty {b} f Columns k x h = f .sizes (first b k) (f .firsts k h)
 
-pub move-shape : (r : Run) (α : ℤ) (b : List ℤ) → Fair r → SameShape b (moveRun r α b)
+pub move-shape : (r : PlaceRun) (α : ℤ) (b : List ℤ) → BetweenCosts r → SameShape b (moveRun r α b)
 move-shape r α b f =
     record {
       whole = move-length r α b;
@@ -220,7 +220,7 @@ move-shape r α b f =
 
 -- what is asked of a move, by its run, its block and the number that goes
 abbrev pub Asked : Type 1
-Asked = Run → List ℤ → ℤ → Type 0
+Asked = PlaceRun → List ℤ → ℤ → Type 0
 
 -- any number may go
 abbrev pub Any : Asked
@@ -229,10 +229,10 @@ Any r c α = Unit {0}
 -- c comes from b by at most n moves
 pub data Moved (R : Asked) (b : List ℤ) : ℕ → List ℤ → Type 0 where
   none : {n : ℕ} → Moved R b n b
-  move : {m n : ℕ} {run : Run} {c : List ℤ} (α : ℤ) → m < n → Project b run → R run c α → Moved R b m c → Moved R b n (moveRun run α c)
+  move : {m n : ℕ} {run : PlaceRun} {c : List ℤ} (α : ℤ) → m < n → Project b run → R run c α → Moved R b m c → Moved R b n (moveRun run α c)
 
 -- with less asked
-pub moved-map : {R S : Asked} {b : List ℤ} → ((run : Run) (c : List ℤ) (α : ℤ) → R run c α → S run c α)
+pub moved-map : {R S : Asked} {b : List ℤ} → ((run : PlaceRun) (c : List ℤ) (α : ℤ) → R run c α → S run c α)
     → {n : ℕ} {c : List ℤ} → Moved R b n c → Moved S b n c
 moved-map f none = none
 moved-map f (move {run = run} α l p r w) = move α l p (f run _ α r) (moved-map f w)
@@ -244,28 +244,28 @@ pub moved-more : {R : Asked} {b : List ℤ} {m n : ℕ} {c : List ℤ} → m ≤
 moved-more h none = none
 moved-more {n = n} h (move {m = i} α l p r w) = let q : i < n = omega arith in move α q p r w
 
-module _ {R : Asked} {b : List ℤ} (s : Shapely b) where
+module _ {R : Asked} {b : List ℤ} (s : ShapeInRange b) where
   pub moved-shape : {n : ℕ} {c : List ℤ} → Moved R b n c → SameShape b c
   moved-shape none = shape-same b
-  moved-shape (move {run = run} {c} α l p r w) = shape-then (moved-shape w) (move-shape run α c (project-fair s p))
+  moved-shape (move {run = run} {c} α l p r w) = shape-then (moved-shape w) (move-shape run α c (project-between-costs s p))
 
   -- the same run, as a block on the way has it
   module _ {n : ℕ} {c : List ℤ} (w : Moved R b n c) where
-    pub moved-line : (side : Side) (m k x : ℕ) (α : ℤ) → n < m → k < pairs b → x < size b (lineTrain side b k)
-        → R (lineRun side b k x) c α → Moved R b m (project side k x α c)
-    moved-line side m k x α l h q r = rw (same-line (moved-shape w) s k (omega (arith, s .pairs)) side x) (move α l (line side k x h q) r w)
+    pub moved-lane : (side : Side) (m k x : ℕ) (α : ℤ) → n < m → k < pairs b → x < size b (laneTrain side b k)
+        → R (laneRun side b k x) c α → Moved R b m (project side k x α c)
+    moved-lane side m k x α l h q r = rw (same-lane (moved-shape w) s k (omega (arith, s .pairs)) side x) (move α l (lane side k x h q) r w)
 
     pub moved-unary : (m i : ℕ) (α : ℤ) → n < m → i < trains b → R (choicesRun b i) c α → Moved R b m (projectUnary i α c)
     moved-unary m i α l h r = rw (same-size (moved-shape w) i (omega (arith, s .trains))) (move α l (unary i h) r w)
 
   -- the folds of an operation: α is the number that goes, by turn and block
   module _ (α : ℕ → List ℤ → ℤ) where
-    pub lines-moved : (side : Side) (k : ℕ) → k < pairs b
-        → ((x : ℕ) (y : List ℤ) → SameShape b y → x < size b (lineTrain side b k) → R (lineRun side b k x) y (α x y))
-        → (m n : ℕ) (c : List ℤ) → m ≤ size b (lineTrain side b k) → Moved R b n c → Moved R b (n + m) (iter m (λ x y. project side k x (α x y) y) c)
-    lines-moved side k h r m n c l w =
+    pub lanes-moved : (side : Side) (k : ℕ) → k < pairs b
+        → ((x : ℕ) (y : List ℤ) → SameShape b y → x < size b (laneTrain side b k) → R (laneRun side b k x) y (α x y))
+        → (m n : ℕ) (c : List ℤ) → m ≤ size b (laneTrain side b k) → Moved R b n c → Moved R b (n + m) (iter m (λ x y. project side k x (α x y) y) c)
+    lanes-moved side k h r m n c l w =
         iter-ind (λ i y. Moved R b (n + i) y) m (λ x y. project side k x (α x y) y) c (rw add-zero w)
-        (λ x y q v. moved-line v side (n + (x + 1)) k x (α x y) (omega arith) h (omega arith) (r x y (moved-shape v) (omega arith)))
+        (λ x y q v. moved-lane v side (n + (x + 1)) k x (α x y) (omega arith) h (omega arith) (r x y (moved-shape v) (omega arith)))
 
     pub trains-moved : ((i : ℕ) (x : List ℤ) → SameShape b x → i < trains b → R (choicesRun b i) x (α i x))
         → (m n : ℕ) (c : List ℤ) → m ≤ trains b → Moved R b n c → Moved R b (n + m) (iter m (λ i x. projectUnary i (α i x) x) c)
@@ -285,7 +285,7 @@ abbrev pub allMoves : ℕ
 allMoves = maxTrains + 16 * maxPairs
 
 -- one chain after another
-pub moved-then : {R : Asked} {b c : List ℤ} {m : ℕ} → Shapely b → Moved R b m c → {n : ℕ} {d : List ℤ} → Moved R c n d → Moved R b (m + n) d
+pub moved-then : {R : Asked} {b c : List ℤ} {m : ℕ} → ShapeInRange b → Moved R b m c → {n : ℕ} {d : List ℤ} → Moved R c n d → Moved R b (m + n) d
 moved-then {m = m} s w {n} none = moved-more {n = m + n} (omega arith) w
 moved-then {m = m} s w {n} (move {m = i} α l p r v) =
     let q : m + i < m + n = omega arith in

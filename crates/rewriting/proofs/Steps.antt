@@ -8,57 +8,57 @@ use lib.IntN.{ℤ, negℤ, _+ℤ_}
 use lib.ListN.{length}
 use Rattle.tables.specs.Block.{blockLength, maxTrains, constantPlace, heldChoicePlace, heldEntryPlace, at, trains, pairs, size, first, second}
 use Rattle.tables.proofs.Study.{SameShape, same-size}
-use Rattle.rewriting.specs.declared.sides.Run.{Run}
+use Rattle.rewriting.specs.declared.sides.PlaceRun.{PlaceRun}
 use Rattle.rewriting.specs.declared.sides.Side.{Side}
 use Rattle.rewriting.specs.declared.sides.Side.the-variants.{Rows, Columns}
-use Rattle.rewriting.specs.Moves.{Shapely, moveRun, lineTrain, lineRun, choicesRun, project, projectUnary}
+use Rattle.rewriting.specs.Moves.{ShapeInRange, moveRun, laneTrain, laneRun, choicesRun, project, projectUnary}
 use Rattle.rewriting.proofs.Runs.{Met, Missed, move-to, move-met, move-other}
-use Rattle.rewriting.proofs.Shape.{same-line, line-train, lines-most, line, unary, project-fair, fair-run}
+use Rattle.rewriting.proofs.Shape.{same-lane, lane-train, lanes-most, lane, unary, project-between-costs, between-costs-run}
 
--- the train of pair k that has a choice for each place of a line
+-- the train of pair k that has a choice for each place of a lane
 abbrev pub acrossTrain : Side → List ℤ → ℕ → ℕ
 acrossTrain Rows b k = second b k
 acrossTrain Columns b k = first b k
 
--- place z of line y of pair k
-abbrev pub linePlace : Side → ℕ → ℕ → ℕ → ℕ
-linePlace Rows k y z = heldEntryPlace k y z
-linePlace Columns k y z = heldEntryPlace k z y
+-- place z of lane y of pair k
+abbrev pub lanePlace : Side → ℕ → ℕ → ℕ → ℕ
+lanePlace Rows k y z = heldEntryPlace k y z
+lanePlace Columns k y z = heldEntryPlace k z y
 
-module _ {b : List ℤ} (s : Shapely b) where
-  -- the places of a line
-  line-met : (side : Side) (k y z : ℕ) → z < size b (acrossTrain side b k) → Met (lineRun side b k y) (linePlace side k y z)
-  line-met Rows k y z h = record { turn = z; below = h; is = omega arith }
-  line-met Columns k y z h = record { turn = z; below = h; is = omega arith }
+module _ {b : List ℤ} (s : ShapeInRange b) where
+  -- the places of a lane
+  lane-met : (side : Side) (k y z : ℕ) → z < size b (acrossTrain side b k) → Met (laneRun side b k y) (lanePlace side k y z)
+  lane-met Rows k y z h = record { turn = z; below = h; is = omega arith }
+  lane-met Columns k y z h = record { turn = z; below = h; is = omega arith }
 
   -- where its costs go
-  line-to : (side : Side) (k y : ℕ) → lineRun side b k y .to ≡ heldChoicePlace (lineTrain side b k) y
-  line-to Rows k y = refl
-  line-to Columns k y = refl
+  lane-to : (side : Side) (k y : ℕ) → laneRun side b k y .to ≡ heldChoicePlace (laneTrain side b k) y
+  lane-to Rows k y = refl
+  lane-to Columns k y = refl
 
-  -- a place below the entries is in no line
-  line-missed : (side : Side) (k y p : ℕ) → p < heldEntryPlace 0 0 0 → Missed (lineRun side b k y) p
-  line-missed Rows k y p h i l e = omega arith
-  line-missed Columns k y p h i l e = omega arith
+  -- a place below the entries is in no lane
+  lane-missed : (side : Side) (k y p : ℕ) → p < heldEntryPlace 0 0 0 → Missed (laneRun side b k y) p
+  lane-missed Rows k y p h i l e = omega arith
+  lane-missed Columns k y p h i l e = omega arith
 
-  -- nor is a place of another line or of another pair
-  line-other : (side : Side) (k y l t z : ℕ) → k < pairs b → l < pairs b → y < size b (lineTrain side b k) → t < size b (lineTrain side b l) → z < size b (acrossTrain side b l)
-      → (l ≢ k) ⊎ (t ≢ y) → Missed (lineRun side b k y) (linePlace side l t z)
-  line-other Rows k y l t z h g q r w n i j e =
-      let d = lines-most s Rows k h in
-      let f = lines-most s Columns k h in
-      let u = lines-most s Rows l g in
-      let v = lines-most s Columns l g in
+  -- nor is a place of another lane or of another pair
+  lane-other : (side : Side) (k y l t z : ℕ) → k < pairs b → l < pairs b → y < size b (laneTrain side b k) → t < size b (laneTrain side b l) → z < size b (acrossTrain side b l)
+      → (l ≢ k) ⊎ (t ≢ y) → Missed (laneRun side b k y) (lanePlace side l t z)
+  lane-other Rows k y l t z h g q r w n i j e =
+      let d = lanes-most s Rows k h in
+      let f = lanes-most s Columns k h in
+      let u = lanes-most s Rows l g in
+      let v = lanes-most s Columns l g in
       ⊎-elim (λ (m : l ≢ k). m (omega arith)) (λ (m : t ≢ y). m (omega arith)) n
-  line-other Columns k y l t z h g q r w n i j e =
-      let d = lines-most s Rows k h in
-      let f = lines-most s Columns k h in
-      let u = lines-most s Rows l g in
-      let v = lines-most s Columns l g in
+  lane-other Columns k y l t z h g q r w n i j e =
+      let d = lanes-most s Rows k h in
+      let f = lanes-most s Columns k h in
+      let u = lanes-most s Rows l g in
+      let v = lanes-most s Columns l g in
       ⊎-elim (λ (m : l ≢ k). m (omega arith)) (λ (m : t ≢ y). m (omega arith)) n
 
   -- no entry is a choice or the constant
-  entry-high : (side : Side) (l t z : ℕ) → heldEntryPlace 0 0 0 ≤ linePlace side l t z
+  entry-high : (side : Side) (l t z : ℕ) → heldEntryPlace 0 0 0 ≤ lanePlace side l t z
   entry-high Rows l t z = omega arith
   entry-high Columns l t z = omega arith
 
@@ -94,17 +94,17 @@ module _ {b : List ℤ} (s : Shapely b) where
 
       module _ (α : ℤ) where
         by-unary : (p : ℕ) {z : ℤ} → at (moveRun (choicesRun b t) α x) p ≡ z → at (projectUnary t α x) p ≡ z
-        by-unary p e = ap (λ (r : Run). at (moveRun r α x) p) choices-same ∙ e
+        by-unary p e = ap (λ (r : PlaceRun). at (moveRun r α x) p) choices-same ∙ e
 
         pub unary-constant : at (projectUnary t α x) constantPlace ≡ at x constantPlace +ℤ α
         unary-constant =
-            let f = project-fair s (unary t h) in
-            by-unary constantPlace (move-to (choicesRun b t) α x (fair-run x long f) (f .missed) constantPlace refl)
+            let f = project-between-costs s (unary t h) in
+            by-unary constantPlace (move-to (choicesRun b t) α x (between-costs-run x long f) (f .missed) constantPlace refl)
 
         pub unary-choice : (a : ℕ) → a < size b t → at (projectUnary t α x) (heldChoicePlace t a) ≡ at x (heldChoicePlace t a) +ℤ negℤ α
         unary-choice a q =
-            let f = project-fair s (unary t h) in
-            by-unary (heldChoicePlace t a) (move-met (choicesRun b t) α x (fair-run x long f) (f .missed) (heldChoicePlace t a) (choices-met a q))
+            let f = project-between-costs s (unary t h) in
+            by-unary (heldChoicePlace t a) (move-met (choicesRun b t) α x (between-costs-run x long f) (f .missed) (heldChoicePlace t a) (choices-met a q))
 
         pub unary-choice-other : (i a : ℕ) → i < maxTrains → a < size b i → i ≢ t → at (projectUnary t α x) (heldChoicePlace i a) ≡ at x (heldChoicePlace i a)
         unary-choice-other i a g q n =
@@ -115,33 +115,33 @@ module _ {b : List ℤ} (s : Shapely b) where
 
     -- ---- Project
 
-    module _ (side : Side) (k y : ℕ) (h : k < pairs b) (q : y < size b (lineTrain side b k)) where
-      pub line-same : lineRun side x k y ≡ lineRun side b k y
-      line-same = same-line u s k (omega (arith, s .pairs)) side y
+    module _ (side : Side) (k y : ℕ) (h : k < pairs b) (q : y < size b (laneTrain side b k)) where
+      pub lane-same : laneRun side x k y ≡ laneRun side b k y
+      lane-same = same-lane u s k (omega (arith, s .pairs)) side y
 
       module _ (α : ℤ) where
-        by-line : (p : ℕ) {z : ℤ} → at (moveRun (lineRun side b k y) α x) p ≡ z → at (project side k y α x) p ≡ z
-        by-line p e = ap (λ (r : Run). at (moveRun r α x) p) line-same ∙ e
+        by-lane : (p : ℕ) {z : ℤ} → at (moveRun (laneRun side b k y) α x) p ≡ z → at (project side k y α x) p ≡ z
+        by-lane p e = ap (λ (r : PlaceRun). at (moveRun r α x) p) lane-same ∙ e
 
-        pub project-choice : at (project side k y α x) (heldChoicePlace (lineTrain side b k) y) ≡ at x (heldChoicePlace (lineTrain side b k) y) +ℤ α
+        pub project-choice : at (project side k y α x) (heldChoicePlace (laneTrain side b k) y) ≡ at x (heldChoicePlace (laneTrain side b k) y) +ℤ α
         project-choice =
-            let f = project-fair s (line side k y h q) in
-            let p = heldChoicePlace (lineTrain side b k) y in
-            by-line p (move-to (lineRun side b k y) α x (fair-run x long f) (f .missed) p (rw (line-to side k y)))
+            let f = project-between-costs s (lane side k y h q) in
+            let p = heldChoicePlace (laneTrain side b k) y in
+            by-lane p (move-to (laneRun side b k y) α x (between-costs-run x long f) (f .missed) p (rw (lane-to side k y)))
 
-        -- a number below the entries that is not where the line goes
-        pub project-low : (p : ℕ) → p < heldEntryPlace 0 0 0 → p ≢ heldChoicePlace (lineTrain side b k) y → at (project side k y α x) p ≡ at x p
-        project-low p g n = by-line p (move-other (lineRun side b k y) α x p (λ e. n (e ∙ line-to side k y)) (line-missed side k y p g))
+        -- a number below the entries that is not where the lane goes
+        pub project-low : (p : ℕ) → p < heldEntryPlace 0 0 0 → p ≢ heldChoicePlace (laneTrain side b k) y → at (project side k y α x) p ≡ at x p
+        project-low p g n = by-lane p (move-other (laneRun side b k y) α x p (λ e. n (e ∙ lane-to side k y)) (lane-missed side k y p g))
 
-        pub project-entry : (z : ℕ) → z < size b (acrossTrain side b k) → at (project side k y α x) (linePlace side k y z) ≡ at x (linePlace side k y z) +ℤ negℤ α
+        pub project-entry : (z : ℕ) → z < size b (acrossTrain side b k) → at (project side k y α x) (lanePlace side k y z) ≡ at x (lanePlace side k y z) +ℤ negℤ α
         project-entry z r =
-            let f = project-fair s (line side k y h q) in
-            by-line (linePlace side k y z) (move-met (lineRun side b k y) α x (fair-run x long f) (f .missed) (linePlace side k y z) (line-met side k y z r))
+            let f = project-between-costs s (lane side k y h q) in
+            by-lane (lanePlace side k y z) (move-met (laneRun side b k y) α x (between-costs-run x long f) (f .missed) (lanePlace side k y z) (lane-met side k y z r))
 
-        pub project-entry-other : (l t z : ℕ) → l < pairs b → t < size b (lineTrain side b l) → z < size b (acrossTrain side b l) → (l ≢ k) ⊎ (t ≢ y)
-            → at (project side k y α x) (linePlace side l t z) ≡ at x (linePlace side l t z)
+        pub project-entry-other : (l t z : ℕ) → l < pairs b → t < size b (laneTrain side b l) → z < size b (acrossTrain side b l) → (l ≢ k) ⊎ (t ≢ y)
+            → at (project side k y α x) (lanePlace side l t z) ≡ at x (lanePlace side l t z)
         project-entry-other l t z g r w n =
-            by-line (linePlace side l t z)
-            (move-other (lineRun side b k y) α x (linePlace side l t z)
-            (λ e. omega (arith, line-to side k y, entry-high side l t z, choice-low (lineTrain side b k) y (line-train s side k h) q))
-            (line-other side k y l t z h g q r w n))
+            by-lane (lanePlace side l t z)
+            (move-other (laneRun side b k y) α x (lanePlace side l t z)
+            (λ e. omega (arith, lane-to side k y, entry-high side l t z, choice-low (laneTrain side b k) y (lane-train s side k h) q))
+            (lane-other side k y l t z h g q r w n))

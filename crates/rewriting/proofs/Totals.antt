@@ -13,12 +13,12 @@ use Rattle.tables.specs.Plans.{IsPlan, choiceTotal, pairTotal, total, shapeOf, 
 use Rattle.tables.specs.WellFormed.{Study}
 use Rattle.tables.proofs.Range.{below-suc}
 use Rattle.tables.proofs.Plans.{same-shape-total}
-use Rattle.rewriting.specs.declared.sides.Run.{Run}
+use Rattle.rewriting.specs.declared.sides.PlaceRun.{PlaceRun}
 use Rattle.rewriting.specs.declared.sides.Side.the-variants.{Rows, Columns}
 use Rattle.rewriting.specs.Whole.{sumℤ}
-use Rattle.rewriting.specs.Moves.{Shapely, moveRun, lineRun, choicesRun, Filled}
+use Rattle.rewriting.specs.Moves.{ShapeInRange, moveRun, laneRun, choicesRun, NonEmpty}
 use Rattle.rewriting.proofs.Runs.{Met, Missed, move-to, move-met, move-other}
-use Rattle.rewriting.proofs.Shape.{study-figure, study-shapely, study-filled, Project, line, unary, lines-most, Fair, project-fair, fair-run, Asked, Moved, none, move, moved-shape}
+use Rattle.rewriting.proofs.Shape.{study-figure, study-shape-in-range, study-non-empty, Project, lane, unary, lanes-most, BetweenCosts, project-between-costs, between-costs-run, Asked, Moved, none, move, moved-shape}
 
 -- ---- sums of whole numbers
 
@@ -84,21 +84,21 @@ module _ (b : List ℤ) (x : ℕ → ℕ) where
 
 -- a plan by its choices, of a block within its ranges
 pub record Taken (b : List ℤ) (x : ℕ → ℕ) : Type 0 where
-  pub shapely : Shapely b
-  pub filled : Filled b
+  pub inRange : ShapeInRange b
+  pub nonEmpty : NonEmpty b
   pub plan : (i : ℕ) → i < trains b → x i < size b i
 
 -- each choice is one of eight
 module _ {b : List ℤ} {x : ℕ → ℕ} (t : Taken b x) where
   taken-small : (i : ℕ) → i < trains b → (i < maxTrains) × (x i < maxChoices)
-  taken-small i h = omega (arith, t .plan i h, t .shapely .trains, t .shapely .sizes i (omega (arith, t .shapely .trains)))
+  taken-small i h = omega (arith, t .plan i h, t .inRange .trains, t .inRange .sizes i (omega (arith, t .inRange .trains)))
 
   taken-pair : (l : ℕ) → l < pairs b → (x (first b l) < maxChoices) × (x (second b l) < maxChoices)
-  taken-pair l h = (taken-small (first b l) (t .filled .firsts l h) .1, taken-small (second b l) (t .filled .seconds l h) .1)
+  taken-pair l h = (taken-small (first b l) (t .nonEmpty .firsts l h) .1, taken-small (second b l) (t .nonEmpty .seconds l h) .1)
 
 module _ {b : List ℤ} {x : ℕ → ℕ} (w : Taken b x) (c : List ℤ) (len : length c ≡ blockLength) (α : ℤ) where
   -- from entries of pair k, which the plan meets where it takes choice a of train t, to that choice
-  pair-move : (k t a : ℕ) (r : Run) → r .to ≡ heldChoicePlace t a → Fair r → k < pairs b → t < trains b → a < maxChoices → heldEntriesFrom ≤ r .from
+  pair-move : (k t a : ℕ) (r : PlaceRun) → r .to ≡ heldChoicePlace t a → BetweenCosts r → k < pairs b → t < trains b → a < maxChoices → heldEntriesFrom ≤ r .from
       → (x t ≡ a → Met r (heldEntryPlace k (x (first b k)) (x (second b k))))
       → ((l : ℕ) → l < pairs b → (l ≢ k) ⊎ (x t ≢ a) → Missed r (heldEntryPlace l (x (first b l)) (x (second b l))))
       → paid b x (moveRun r α c) ≡ paid b x c
@@ -127,9 +127,9 @@ module _ {b : List ℤ} {x : ℕ → ℕ} (w : Taken b x) (c : List ℤ) (len : 
           parts-kept (unchanged constant)
           (record {
             by = sumℤ-one (trains b) t _ _ α ht (λ i h n. choice i h (inl n))
-                (move-to r α c (fair-run c len f) (f .missed) (heldChoicePlace t (x t)) (ap (heldChoicePlace t) e ∙ sym to));
+                (move-to r α c (between-costs-run c len f) (f .missed) (heldChoicePlace t (x t)) (ap (heldChoicePlace t) e ∙ sym to));
           })
-          (record { by = sumℤ-one (pairs b) k _ _ (negℤ α) hk (λ l h n. pair l h (inl n)) (move-met r α c (fair-run c len f) (f .missed) _ (hit e)) })
+          (record { by = sumℤ-one (pairs b) k _ _ (negℤ α) hk (λ l h n. pair l h (inl n)) (move-met r α c (between-costs-run c len f) (f .missed) _ (hit e)) })
           (ap (λ (z : ℤ). z +ℤ negℤ α) (+ℤ-idl α) ∙ +ℤ-invr α)
       by (no n) =
           parts-kept (unchanged constant) (unchanged (sumℤ-cong (trains b) _ _ (λ i h. choice i h (inr n))))
@@ -140,34 +140,34 @@ module _ {b : List ℤ} {x : ℕ → ℕ} (w : Taken b x) (c : List ℤ) (len : 
   unfolding paid
   train-move t ht =
       let r = choicesRun b t in
-      let f = project-fair (w .shapely) (unary t ht) in
-      let d = w .shapely .sizes t (taken-small w t ht .0) in
+      let f = project-between-costs (w .inRange) (unary t ht) in
+      let d = w .inRange .sizes t (taken-small w t ht .0) in
       parts-kept {p = at c constantPlace} {q = sumℤ (trains b) (paidChoice b x c)} {d = α} {e = negℤ α}
-      (record { by = move-to r α c (fair-run c len f) (f .missed) constantPlace refl })
+      (record { by = move-to r α c (between-costs-run c len f) (f .missed) constantPlace refl })
       (record {
         by = sumℤ-one (trains b) t _ _ (negℤ α) ht
             (λ i h n. let q = taken-small w i h in move-other r α c _ (λ e. omega arith) (λ j l e. n (omega arith)))
-            (move-met r α c (fair-run c len f) (f .missed) _ (record { turn = x t; below = w .plan t ht; is = omega arith }));
+            (move-met r α c (between-costs-run c len f) (f .missed) _ (record { turn = x t; below = w .plan t ht; is = omega arith }));
       })
       (unchanged (sumℤ-cong (pairs b) _ _ (λ l h. move-other r α c _ (λ e. omega arith) (λ i q e. omega (arith, d, taken-small w t ht)))))
       (ap (λ (z : ℤ). z +ℤ pos 0) (+ℤ-invr α))
 
   -- every move of Algorithm 1
-  pub project-total : {r : Run} → Project b r → paid b x (moveRun r α c) ≡ paid b x c
-  project-total (line Rows k a h q) =
+  pub project-total : {r : PlaceRun} → Project b r → paid b x (moveRun r α c) ≡ paid b x c
+  project-total (lane Rows k a h q) =
       let t = first b k in
-      let d = lines-most (w .shapely) Rows k h in
-      let g = lines-most (w .shapely) Columns k h in
-      pair-move k t a (lineRun Rows b k a) refl (project-fair (w .shapely) (line Rows k a h q)) h (w .filled .firsts k h) (omega arith) (omega arith)
-      (λ e. record { turn = x (second b k); below = w .plan (second b k) (w .filled .seconds k h); is = omega arith })
+      let d = lanes-most (w .inRange) Rows k h in
+      let g = lanes-most (w .inRange) Columns k h in
+      pair-move k t a (laneRun Rows b k a) refl (project-between-costs (w .inRange) (lane Rows k a h q)) h (w .nonEmpty .firsts k h) (omega arith) (omega arith)
+      (λ e. record { turn = x (second b k); below = w .plan (second b k) (w .nonEmpty .seconds k h); is = omega arith })
       (λ l hl n i r e. let z = taken-pair w l hl in let j : l ≡ k = omega arith in
       ⊎-elim (λ (m : l ≢ k). m j) (λ (m : x t ≢ a). m (ap (λ (y : ℕ). x (first b y)) (sym j) ∙ (omega arith))) n)
-  project-total (line Columns k a h q) =
+  project-total (lane Columns k a h q) =
       let t = second b k in
-      let d = lines-most (w .shapely) Columns k h in
-      let g = lines-most (w .shapely) Rows k h in
-      pair-move k t a (lineRun Columns b k a) refl (project-fair (w .shapely) (line Columns k a h q)) h (w .filled .seconds k h) (omega arith) (omega arith)
-      (λ e. record { turn = x (first b k); below = w .plan (first b k) (w .filled .firsts k h); is = omega arith })
+      let d = lanes-most (w .inRange) Columns k h in
+      let g = lanes-most (w .inRange) Rows k h in
+      pair-move k t a (laneRun Columns b k a) refl (project-between-costs (w .inRange) (lane Columns k a h q)) h (w .nonEmpty .seconds k h) (omega arith) (omega arith)
+      (λ e. record { turn = x (first b k); below = w .plan (first b k) (w .nonEmpty .firsts k h); is = omega arith })
       (λ l hl n i r e. let z = taken-pair w l hl in let j : l ≡ k = omega arith in
       ⊎-elim (λ (m : l ≢ k). m j) (λ (m : x t ≢ a). m (ap (λ (y : ℕ). x (second b y)) (sym j) ∙ (omega arith))) n)
   project-total (unary i h) = train-move i h
@@ -177,7 +177,7 @@ module _ {b : List ℤ} {x : ℕ → ℕ} (w : Taken b x) (c : List ℤ) (len : 
 pub moved-total : {R : Asked} {b : List ℤ} {x : ℕ → ℕ} → Taken b x → {n : ℕ} {c : List ℤ} → Moved R b n c → paid b x c ≡ paid b x b
 moved-total w none = refl
 moved-total w (move {c = c} α l p r v) =
-    project-total w c (moved-shape (w .shapely) v .whole ∙ w .shapely .whole) α p ∙ moved-total w v
+    project-total w c (moved-shape (w .inRange) v .whole ∙ w .inRange .whole) α p ∙ moved-total w v
 
 pos-same : (m n : ℕ) → pos m ≡ pos n → m ≡ n
 pos-same m n e = ap nat e
@@ -187,6 +187,6 @@ pub moved-keeps-total : {R : Asked} {b c : List ℤ} {n : ℕ} → Study b → M
     → (x : ℕ → ℕ) → IsPlan (shapeOf b) x → heldTotal c x ≡ heldTotal b x
 unfolding IsPlan shapeOf
 moved-keeps-total {b = b} {c} s v natural x p =
-    let w : Taken b x = record { shapely = study-shapely s; filled = study-filled s; plan = p } in
-    same-shape-total (moved-shape (study-shapely s) v) s (heldCosts c) x
+    let w : Taken b x = record { inRange = study-shape-in-range s; nonEmpty = study-non-empty s; plan = p } in
+    same-shape-total (moved-shape (study-shape-in-range s) v) s (heldCosts c) x
     ∙ pos-same _ _ (sym (paid-natural b x c natural) ∙ moved-total w v ∙ paid-natural b x b (λ q. study-figure s q .0))

@@ -1,4 +1,4 @@
--- What the turns of an operation leave at the constant, at each choice and at each entry, whatever number goes in each: the lines of one side of a pair, a whole pair, all pairs,
+-- What the turns of an operation leave at the constant, at each choice and at each entry, whatever number goes in each: the lanes of one side of a pair, a whole pair, all pairs,
 -- and the trains. Runs of one side have no place in common, nor have two pairs or two trains; so each turn finds its own run as it was, and later turns leave what it left.
 -- α y z is what goes in turn y on block z; of it counts what it is on the block that the turn finds.
 use mathlib.Core.Path.{_≡_, refl, sym, ap, ap₂, _∙_}
@@ -18,10 +18,10 @@ use Rattle.operations.proofs.Fold.{iter-ind}
 use Rattle.rewriting.specs.declared.sides.Side.{Side}
 use Rattle.rewriting.specs.declared.sides.Side.the-variants.{Rows, Columns}
 use Rattle.rewriting.specs.Whole.{sumℤ, ofPair}
-use Rattle.rewriting.specs.Moves.{Shapely, lineTrain, project, projectUnary}
-use Rattle.rewriting.proofs.Shape.{same-lines, line-train, line, unary, project-fair, move-shape, shape-then}
+use Rattle.rewriting.specs.Moves.{ShapeInRange, laneTrain, project, projectUnary}
+use Rattle.rewriting.proofs.Shape.{same-lanes, lane-train, lane, unary, project-between-costs, move-shape, shape-then}
 use Rattle.rewriting.proofs.Folds.{fold-leaves, fold-turn, fold-sum}
-use Rattle.rewriting.proofs.Steps.{acrossTrain, linePlace, choice-low, choices-apart, choices-same, line-same, unary-constant, unary-choice, unary-choice-other, unary-high, project-choice, project-low, project-entry, project-entry-other}
+use Rattle.rewriting.proofs.Steps.{acrossTrain, lanePlace, choice-low, choices-apart, choices-same, lane-same, unary-constant, unary-choice, unary-choice-other, unary-high, project-choice, project-low, project-entry, project-entry-other}
 
 -- ---- what a pair has for a train
 
@@ -49,13 +49,13 @@ module _ {A : Type 0} (b : List ℤ) (k i : ℕ) (r q z : A) where
 
 -- ---- the turns
 
--- each line of a side of pair k
-abbrev pub linesTurned : Side → ℕ → (ℕ → List ℤ → ℤ) → List ℤ → List ℤ
-linesTurned side k α x = iter (size x (lineTrain side x k)) (λ y z. project side k y (α y z) z) x
+-- each lane of a side of pair k
+abbrev pub lanesTurned : Side → ℕ → (ℕ → List ℤ → ℤ) → List ℤ → List ℤ
+lanesTurned side k α x = iter (size x (laneTrain side x k)) (λ y z. project side k y (α y z) z) x
 
 -- the rows of pair k, then its columns
 abbrev pub pairTurned : ℕ → (ℕ → List ℤ → ℤ) → (ℕ → List ℤ → ℤ) → List ℤ → List ℤ
-pairTurned k ρ κ x = linesTurned Columns k κ (linesTurned Rows k ρ x)
+pairTurned k ρ κ x = lanesTurned Columns k κ (lanesTurned Rows k ρ x)
 
 -- each train
 abbrev pub trainsTurned : (ℕ → List ℤ → ℤ) → List ℤ → List ℤ
@@ -73,82 +73,82 @@ ColumnSent b x k r κ q =
     (d : ℕ) → d < size b (second b k) → (z : List ℤ) → SameShape b z
     → ((a : ℕ) → a < size b (first b k) → at z (heldEntryPlace k a d) ≡ at x (heldEntryPlace k a d) -ℤ r a) → κ d z ≡ q d
 
-module _ {b : List ℤ} (s : Shapely b) where
-  -- ---- the lines of a side
+module _ {b : List ℤ} (s : ShapeInRange b) where
+  -- ---- the lanes of a side
 
   module _ (side : Side) (k : ℕ) (h : k < pairs b) (α : ℕ → List ℤ → ℤ) (x : List ℤ) (v : SameShape b x) where
-    abbrev lines : ℕ
-    lines = size b (lineTrain side b k)
+    abbrev lanes : ℕ
+    lanes = size b (laneTrain side b k)
 
-    abbrev lineTurn : ℕ → List ℤ → List ℤ
-    lineTurn y z = project side k y (α y z) z
+    abbrev laneTurn : ℕ → List ℤ → List ℤ
+    laneTurn y z = project side k y (α y z) z
 
-    line-shape : (a : ℕ) → a ≤ lines → SameShape b (iter a lineTurn x)
-    line-shape a l =
-        iter-ind (λ _ z. SameShape b z) a lineTurn x v
-        (λ y z q u. let r : y < lines = omega arith in
-        shape-then u (rw (line-same s z u side k y h r) (move-shape _ (α y z) z (project-fair s (line side k y h r)))))
+    lane-shape : (a : ℕ) → a ≤ lanes → SameShape b (iter a laneTurn x)
+    lane-shape a l =
+        iter-ind (λ _ z. SameShape b z) a laneTurn x v
+        (λ y z q u. let r : y < lanes = omega arith in
+        shape-then u (rw (lane-same s z u side k y h r) (move-shape _ (α y z) z (project-between-costs s (lane side k y h r)))))
 
-    lines-is : linesTurned side k α x ≡ iter lines lineTurn x
-    lines-is = ap (λ (n : ℕ). iter n lineTurn x) (same-lines v s k (omega (arith, s .pairs)) side)
+    lanes-is : lanesTurned side k α x ≡ iter lanes laneTurn x
+    lanes-is = ap (λ (n : ℕ). iter n laneTurn x) (same-lanes v s k (omega (arith, s .pairs)) side)
 
-    pub lines-shape : SameShape b (linesTurned side k α x)
-    lines-shape = rw lines-is (line-shape lines (omega arith))
+    pub lanes-shape : SameShape b (lanesTurned side k α x)
+    lanes-shape = rw lanes-is (lane-shape lanes (omega arith))
 
-    by-lines : (p : ℕ) {z : ℤ} → at (iter lines lineTurn x) p ≡ z → at (linesTurned side k α x) p ≡ z
-    by-lines p e = ap (λ (y : List ℤ). at y p) lines-is ∙ e
+    by-lanes : (p : ℕ) {z : ℤ} → at (iter lanes laneTurn x) p ≡ z → at (lanesTurned side k α x) p ≡ z
+    by-lanes p e = ap (λ (y : List ℤ). at y p) lanes-is ∙ e
 
     -- what is below the entries, and no choice of the side's train, stays
-    lines-low : (p : ℕ) → p < heldEntryPlace 0 0 0 → ((y : ℕ) → y < lines → p ≢ heldChoicePlace (lineTrain side b k) y) → at (linesTurned side k α x) p ≡ at x p
-    lines-low p g n =
-        by-lines p (fold-leaves lineTurn x lines p (λ y q. project-low s _ (line-shape y (omega arith)) side k y h q (α y (iter y lineTurn x)) p g (n y q)))
+    lanes-low : (p : ℕ) → p < heldEntryPlace 0 0 0 → ((y : ℕ) → y < lanes → p ≢ heldChoicePlace (laneTrain side b k) y) → at (lanesTurned side k α x) p ≡ at x p
+    lanes-low p g n =
+        by-lanes p (fold-leaves laneTurn x lanes p (λ y q. project-low s _ (lane-shape y (omega arith)) side k y h q (α y (iter y laneTurn x)) p g (n y q)))
 
     -- and so do the entries of other pairs
-    lines-entry-other : (l t w : ℕ) → l < pairs b → t < size b (lineTrain side b l) → w < size b (acrossTrain side b l) → l ≢ k
-        → at (linesTurned side k α x) (linePlace side l t w) ≡ at x (linePlace side l t w)
-    lines-entry-other l t w g r c n =
-        by-lines (linePlace side l t w)
-        (fold-leaves lineTurn x lines (linePlace side l t w)
-        (λ y q. project-entry-other s _ (line-shape y (omega arith)) side k y h q (α y (iter y lineTurn x)) l t w g r c (inl n)))
+    lanes-entry-other : (l t w : ℕ) → l < pairs b → t < size b (laneTrain side b l) → w < size b (acrossTrain side b l) → l ≢ k
+        → at (lanesTurned side k α x) (lanePlace side l t w) ≡ at x (lanePlace side l t w)
+    lanes-entry-other l t w g r c n =
+        by-lanes (lanePlace side l t w)
+        (fold-leaves laneTurn x lanes (lanePlace side l t w)
+        (λ y q. project-entry-other s _ (lane-shape y (omega arith)) side k y h q (α y (iter y laneTurn x)) l t w g r c (inl n)))
 
-    -- a turn leaves the entries of the other lines, and their choices
-    entry-stays : (a w y : ℕ) → a < lines → w < size b (acrossTrain side b k) → y < lines → y ≢ a
-        → at (lineTurn y (iter y lineTurn x)) (linePlace side k a w) ≡ at (iter y lineTurn x) (linePlace side k a w)
+    -- a turn leaves the entries of the other lanes, and their choices
+    entry-stays : (a w y : ℕ) → a < lanes → w < size b (acrossTrain side b k) → y < lanes → y ≢ a
+        → at (laneTurn y (iter y laneTurn x)) (lanePlace side k a w) ≡ at (iter y laneTurn x) (lanePlace side k a w)
     entry-stays a w y q c r n =
-        project-entry-other s _ (line-shape y (omega arith)) side k y h r (α y (iter y lineTurn x)) k a w h q c (inr (λ e. n (sym e)))
+        project-entry-other s _ (lane-shape y (omega arith)) side k y h r (α y (iter y laneTurn x)) k a w h q c (inr (λ e. n (sym e)))
 
-    choice-stays : (a y : ℕ) → a < lines → y < lines → y ≢ a
-        → at (lineTurn y (iter y lineTurn x)) (heldChoicePlace (lineTrain side b k) a) ≡ at (iter y lineTurn x) (heldChoicePlace (lineTrain side b k) a)
+    choice-stays : (a y : ℕ) → a < lanes → y < lanes → y ≢ a
+        → at (laneTurn y (iter y laneTurn x)) (heldChoicePlace (laneTrain side b k) a) ≡ at (iter y laneTurn x) (heldChoicePlace (laneTrain side b k) a)
     choice-stays a y q r n =
-        let t = lineTrain side b k in
-        let g = line-train s side k h in
-        project-low s _ (line-shape y (omega arith)) side k y h r (α y (iter y lineTurn x)) (heldChoicePlace t a) (choice-low s t a g q)
+        let t = laneTrain side b k in
+        let g = lane-train s side k h in
+        project-low s _ (lane-shape y (omega arith)) side k y h r (α y (iter y laneTurn x)) (heldChoicePlace t a) (choice-low s t a g q)
         (choices-apart s t a t y g g q r (inr (λ e. n (sym e))))
 
-    -- so a line finds its entries as they were
-    entry-found : (a : ℕ) → a < lines → (w : ℕ) → w < size b (acrossTrain side b k) → at (iter a lineTurn x) (linePlace side k a w) ≡ at x (linePlace side k a w)
-    entry-found a q w c = fold-leaves lineTurn x a (linePlace side k a w) (λ y l. entry-stays a w y q c (omega arith) (λ e. omega arith))
+    -- so a lane finds its entries as they were
+    entry-found : (a : ℕ) → a < lanes → (w : ℕ) → w < size b (acrossTrain side b k) → at (iter a laneTurn x) (lanePlace side k a w) ≡ at x (lanePlace side k a w)
+    entry-found a q w c = fold-leaves laneTurn x a (lanePlace side k a w) (λ y l. entry-stays a w y q c (omega arith) (λ e. omega arith))
 
-    -- m a is what goes from line a
+    -- m a is what goes from lane a
     module _ (m : ℕ → ℤ)
-        (sent : (a : ℕ) → a < lines → (z : List ℤ) → SameShape b z → ((w : ℕ) → w < size b (acrossTrain side b k) → at z (linePlace side k a w) ≡ at x (linePlace side k a w)) → α a z ≡ m a) where
-      sends : (a : ℕ) → a < lines → α a (iter a lineTurn x) ≡ m a
-      sends a q = sent a q (iter a lineTurn x) (line-shape a (omega arith)) (entry-found a q)
+        (sent : (a : ℕ) → a < lanes → (z : List ℤ) → SameShape b z → ((w : ℕ) → w < size b (acrossTrain side b k) → at z (lanePlace side k a w) ≡ at x (lanePlace side k a w)) → α a z ≡ m a) where
+      sends : (a : ℕ) → a < lanes → α a (iter a laneTurn x) ≡ m a
+      sends a q = sent a q (iter a laneTurn x) (lane-shape a (omega arith)) (entry-found a q)
 
-      lines-choice : (a : ℕ) → a < lines
-          → at (linesTurned side k α x) (heldChoicePlace (lineTrain side b k) a) ≡ at x (heldChoicePlace (lineTrain side b k) a) +ℤ m a
-      lines-choice a q =
-          let p = heldChoicePlace (lineTrain side b k) a in
-          by-lines p
-          (fold-turn lineTurn x lines a p q (λ y l r. choice-stays a y q r (λ e. omega arith))
-          ∙ project-choice s _ (line-shape a (omega arith)) side k a h q (α a (iter a lineTurn x))
-          ∙ ap₂ _+ℤ_ (fold-leaves lineTurn x a p (λ y l. choice-stays a y q (omega arith) (λ e. omega arith))) (sends a q))
+      lanes-choice : (a : ℕ) → a < lanes
+          → at (lanesTurned side k α x) (heldChoicePlace (laneTrain side b k) a) ≡ at x (heldChoicePlace (laneTrain side b k) a) +ℤ m a
+      lanes-choice a q =
+          let p = heldChoicePlace (laneTrain side b k) a in
+          by-lanes p
+          (fold-turn laneTurn x lanes a p q (λ y l r. choice-stays a y q r (λ e. omega arith))
+          ∙ project-choice s _ (lane-shape a (omega arith)) side k a h q (α a (iter a laneTurn x))
+          ∙ ap₂ _+ℤ_ (fold-leaves laneTurn x a p (λ y l. choice-stays a y q (omega arith) (λ e. omega arith))) (sends a q))
 
-      lines-entry : (a w : ℕ) → a < lines → w < size b (acrossTrain side b k) → at (linesTurned side k α x) (linePlace side k a w) ≡ at x (linePlace side k a w) -ℤ m a
-      lines-entry a w q c =
-          by-lines (linePlace side k a w)
-          (fold-turn lineTurn x lines a (linePlace side k a w) q (λ y l r. entry-stays a w y q c r (λ e. omega arith))
-          ∙ project-entry s _ (line-shape a (omega arith)) side k a h q (α a (iter a lineTurn x)) w c
+      lanes-entry : (a w : ℕ) → a < lanes → w < size b (acrossTrain side b k) → at (lanesTurned side k α x) (lanePlace side k a w) ≡ at x (lanePlace side k a w) -ℤ m a
+      lanes-entry a w q c =
+          by-lanes (lanePlace side k a w)
+          (fold-turn laneTurn x lanes a (lanePlace side k a w) q (λ y l r. entry-stays a w y q c r (λ e. omega arith))
+          ∙ project-entry s _ (lane-shape a (omega arith)) side k a h q (α a (iter a laneTurn x)) w c
           ∙ ap₂ (λ (y n : ℤ). y +ℤ negℤ n) (entry-found a q w c) (sends a q))
 
   -- ---- a pair: ρ and κ say what goes from its rows and its columns, r and q what that is
@@ -156,26 +156,26 @@ module _ {b : List ℤ} (s : Shapely b) where
   module _ (k : ℕ) (h : k < pairs b) (f : first b k < second b k) (ρ κ : ℕ → List ℤ → ℤ) (x : List ℤ) (v : SameShape b x) where
     -- after the rows
     abbrev rows : List ℤ
-    rows = linesTurned Rows k ρ x
+    rows = lanesTurned Rows k ρ x
 
     rows-shape : SameShape b rows
-    rows-shape = lines-shape Rows k h ρ x v
+    rows-shape = lanes-shape Rows k h ρ x v
 
     pub pair-shape : SameShape b (pairTurned k ρ κ x)
-    pair-shape = lines-shape Columns k h κ rows rows-shape
+    pair-shape = lanes-shape Columns k h κ rows rows-shape
 
     pub pair-constant : at (pairTurned k ρ κ x) constantPlace ≡ at x constantPlace
     pair-constant =
-        lines-low Columns k h κ rows rows-shape constantPlace (omega arith) (λ y q e. omega arith)
-        ∙ lines-low Rows k h ρ x v constantPlace (omega arith) (λ y q e. omega arith)
+        lanes-low Columns k h κ rows rows-shape constantPlace (omega arith) (λ y q e. omega arith)
+        ∙ lanes-low Rows k h ρ x v constantPlace (omega arith) (λ y q e. omega arith)
 
     pub pair-entry-other : (l a d : ℕ) → l < pairs b → a < size b (first b l) → d < size b (second b l) → l ≢ k
         → at (pairTurned k ρ κ x) (heldEntryPlace l a d) ≡ at x (heldEntryPlace l a d)
-    pair-entry-other l a d g c w n = lines-entry-other Columns k h κ rows rows-shape l d a g w c n ∙ lines-entry-other Rows k h ρ x v l a d g c w n
+    pair-entry-other l a d g c w n = lanes-entry-other Columns k h κ rows rows-shape l d a g w c n ∙ lanes-entry-other Rows k h ρ x v l a d g c w n
 
     module _ (r q : ℕ → ℤ) (row-sent : RowSent b x k ρ r) (column-sent : ColumnSent b x k r κ q) where
       rows-entry : (a d : ℕ) → a < size b (first b k) → d < size b (second b k) → at rows (heldEntryPlace k a d) ≡ at x (heldEntryPlace k a d) -ℤ r a
-      rows-entry a d c w = lines-entry Rows k h ρ x v r row-sent a d c w
+      rows-entry a d c w = lanes-entry Rows k h ρ x v r row-sent a d c w
 
       columns-sent : (d : ℕ) → d < size b (second b k) → (z : List ℤ) → SameShape b z
           → ((a : ℕ) → a < size b (first b k) → at z (heldEntryPlace k a d) ≡ at rows (heldEntryPlace k a d)) → κ d z ≡ q d
@@ -183,18 +183,18 @@ module _ {b : List ℤ} (s : Shapely b) where
 
       pub pair-entry : (a d : ℕ) → a < size b (first b k) → d < size b (second b k)
           → at (pairTurned k ρ κ x) (heldEntryPlace k a d) ≡ (at x (heldEntryPlace k a d) -ℤ r a) -ℤ q d
-      pair-entry a d c w = lines-entry Columns k h κ rows rows-shape q columns-sent d a w c ∙ ap (λ (z : ℤ). z -ℤ q d) (rows-entry a d c w)
+      pair-entry a d c w = lanes-entry Columns k h κ rows rows-shape q columns-sent d a w c ∙ ap (λ (z : ℤ). z -ℤ q d) (rows-entry a d c w)
 
       module _ (i a : ℕ) (g : i < maxTrains) (c : a < size b i) where
         abbrev p : ℕ
         p = heldChoicePlace i a
 
         rows-leave : i ≢ first b k → at rows p ≡ at x p
-        rows-leave n = lines-low Rows k h ρ x v p (choice-low s i a g c) (λ y w. choices-apart s i a (first b k) y g (line-train s Rows k h) c w (inl n))
+        rows-leave n = lanes-low Rows k h ρ x v p (choice-low s i a g c) (λ y w. choices-apart s i a (first b k) y g (lane-train s Rows k h) c w (inl n))
 
         columns-leave : i ≢ second b k → at (pairTurned k ρ κ x) p ≡ at rows p
         columns-leave n =
-            lines-low Columns k h κ rows rows-shape p (choice-low s i a g c) (λ y w. choices-apart s i a (second b k) y g (line-train s Columns k h) c w (inl n))
+            lanes-low Columns k h κ rows rows-shape p (choice-low s i a g c) (λ y w. choices-apart s i a (second b k) y g (lane-train s Columns k h) c w (inl n))
 
         pub pair-choice : at (pairTurned k ρ κ x) p ≡ at x p +ℤ ofPair b k i (r a) (q a) (pos 0)
         pair-choice = at-first (ℕ-discrete i (first b k))
@@ -204,12 +204,12 @@ module _ {b : List ℤ} (s : Shapely b) where
 
             at-second : i ≢ first b k → Dec (i ≡ second b k) → at (pairTurned k ρ κ x) p ≡ at x p +ℤ ofPair b k i (r a) (q a) (pos 0)
             at-second n (yes e) =
-                rw e (lines-choice Columns k h κ rows rows-shape q columns-sent a (rw e at c))
+                rw e (lanes-choice Columns k h κ rows rows-shape q columns-sent a (rw e at c))
                 ∙ ap (λ (z : ℤ). z +ℤ q a) (rows-leave n) ∙ to (of-second b k i (r a) (q a) (pos 0) n e)
             at-second n (no m) = columns-leave m ∙ rows-leave n ∙ sym (+ℤ-idr (at x p)) ∙ to (of-none b k i (r a) (q a) (pos 0) n m)
 
             at-first : Dec (i ≡ first b k) → at (pairTurned k ρ κ x) p ≡ at x p +ℤ ofPair b k i (r a) (q a) (pos 0)
-            at-first (yes e) = columns-leave (λ z. omega arith) ∙ rw e (lines-choice Rows k h ρ x v r row-sent a (rw e at c)) ∙ to (of-first b k i (r a) (q a) (pos 0) e)
+            at-first (yes e) = columns-leave (λ z. omega arith) ∙ rw e (lanes-choice Rows k h ρ x v r row-sent a (rw e at c)) ∙ to (of-first b k i (r a) (q a) (pos 0) e)
             at-first (no n) = at-second n (ℕ-discrete i (second b k))
 
   -- ---- all pairs: F is the turn of each
@@ -270,7 +270,7 @@ module _ {b : List ℤ} (s : Shapely b) where
     train-shape : (m : ℕ) → m ≤ trains b → SameShape b (iter m trainTurn x)
     train-shape m l =
         iter-ind (λ _ z. SameShape b z) m trainTurn x v
-        (λ i z q u. let h : i < trains b = omega arith in shape-then u (rw (choices-same s z u i h) (move-shape _ (υ i z) z (project-fair s (unary i h)))))
+        (λ i z q u. let h : i < trains b = omega arith in shape-then u (rw (choices-same s z u i h) (move-shape _ (υ i z) z (project-between-costs s (unary i h)))))
 
     trains-is : trainsTurned υ x ≡ iter (trains b) trainTurn x
     trains-is = ap (λ (n : ℕ). iter n trainTurn x) (same-trains v)

@@ -1,4 +1,6 @@
+-- A small theory that the rule is written with.
 pub mod Whole
-pub mod Ends
-pub mod Outcome
+-- The rule: the moves, how the end is judged, and 12 as a statement about the end's numbers. Nothing stands here besides.
 pub mod Moves
+pub mod Judged
+pub mod Ends

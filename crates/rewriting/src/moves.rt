@@ -5,9 +5,9 @@ ghost use lib.IntN.{negℤ};
 ghost use lib.ListN.{length};
 ghost use lib.Signed.{mag};
 ghost use Rattle.tables.specs.Block.{trains, pairs, size};
-ghost use Rattle.rewriting.specs.Moves.{Room, Shapely, RunIn, addAt, addRun, moveRun, lineTrain, project, projectUnary};
+ghost use Rattle.rewriting.specs.Moves.{Room, ShapeInRange, RunIn, addAt, addRun, moveRun, laneTrain, project, projectUnary};
 use crate::sides;
-use crate::sides::Run;
+use crate::sides::PlaceRun;
 use crate::sides::Side;
 
 // The number below 0 that is as far from 0, and the other way round.
@@ -27,7 +27,7 @@ fn add_at(b: &mut [i64], p: usize, z: i64)
 }
 
 // Adds z at each place of a run.
-fn add_run(b: &mut [i64], run: Run, z: i64)
+fn add_run(b: &mut [i64], run: PlaceRun, z: i64)
     requires { ⌜ (RunIn (now b) run) × (Room (now b) (2 ^ 60)) × (mag z < 2 ^ 60) ⌝ }
     ensures { λ _. ⌜ now (b .exit) ≡ addRun run z (now (b .entry)) ⌝ }
 {
@@ -39,7 +39,7 @@ fn add_run(b: &mut [i64], run: Run, z: i64)
 }
 
 // Moves alpha from each place of a run to where its costs go.
-pub fn move_run(b: &mut [i64], run: Run, alpha: i64)
+pub fn move_run(b: &mut [i64], run: PlaceRun, alpha: i64)
     requires { ⌜ (RunIn (now b) run) × (Room (now b) (2 ^ 59)) × (mag alpha < 2 ^ 58) ⌝ }
     ensures { λ _. ⌜ now (b .exit) ≡ moveRun run alpha (now (b .entry)) ⌝ }
 {
@@ -47,17 +47,17 @@ pub fn move_run(b: &mut [i64], run: Run, alpha: i64)
     add_run(b, run, negated(alpha));
 }
 
-// Project: moves alpha from line x of pair k to choice x of the side's train.
+// Project: moves alpha from lane x of pair k to choice x of the side's train.
 pub fn project(b: &mut [i64], k: usize, side: Side, x: usize, alpha: i64)
-    requires { ⌜ (Shapely (now b)) × (Room (now b) (2 ^ 59)) × (k < pairs (now b)) × (x < size (now b) (lineTrain side (now b) k)) × (mag alpha < 2 ^ 58) ⌝ }
+    requires { ⌜ (ShapeInRange (now b)) × (Room (now b) (2 ^ 59)) × (k < pairs (now b)) × (x < size (now b) (laneTrain side (now b) k)) × (mag alpha < 2 ^ 58) ⌝ }
     ensures { λ _. ⌜ now (b .exit) ≡ project side k x alpha (now (b .entry)) ⌝ }
 {
-    move_run(b, sides::line(b, k, side, x), alpha);
+    move_run(b, sides::lane(b, k, side, x), alpha);
 }
 
 // UnaryProject: moves alpha from each choice of train i to the constant.
 pub fn project_unary(b: &mut [i64], i: usize, alpha: i64)
-    requires { ⌜ (Shapely (now b)) × (Room (now b) (2 ^ 59)) × (i < trains (now b)) × (mag alpha < 2 ^ 58) ⌝ }
+    requires { ⌜ (ShapeInRange (now b)) × (Room (now b) (2 ^ 59)) × (i < trains (now b)) × (mag alpha < 2 ^ 58) ⌝ }
     ensures { λ _. ⌜ now (b .exit) ≡ projectUnary i alpha (now (b .entry)) ⌝ }
 {
     move_run(b, sides::choices(b, i), alpha);

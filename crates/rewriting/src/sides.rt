@@ -2,28 +2,28 @@
 ghost use mathlib.Core.Path.{_≡_};
 ghost use Prim.Native.Nat.{_<_};
 ghost use Rattle.tables.specs.Block.{trains, pairs, size};
-ghost use Rattle.rewriting.specs.Moves.{Shapely, lineTrain, lineRun, choicesRun};
+ghost use Rattle.rewriting.specs.Moves.{ShapeInRange, laneTrain, laneRun, choicesRun};
 use tables::block;
 use tables::block::Block;
 
-// The lines of a pair's table: its rows, each of which has a choice of the first train, and its columns, each of which has one of the second.
+// The lanes of a pair's table: its rows, each of which has a choice of the first train, and its columns, each of which has one of the second.
 pub enum Side {
     Rows,
     Columns,
 }
 
 // `count` places, `step` apart, from `from` on, and the place that their costs go to.
-pub struct Run {
+pub struct PlaceRun {
     pub from: usize,
     pub step: usize,
     pub count: usize,
     pub to: usize,
 }
 
-// How many lines pair k has on a side.
-pub fn lines(b: &[i64], k: usize, side: Side) -> usize
-    requires { ⌜ (Shapely (now b)) × (k < pairs (now b)) ⌝ }
-    ensures { λ r. ⌜ r ≡ size (now (b .entry)) (lineTrain side (now (b .entry)) k) ⌝ }
+// How many lanes pair k has on a side.
+pub fn lanes(b: &[i64], k: usize, side: Side) -> usize
+    requires { ⌜ (ShapeInRange (now b)) × (k < pairs (now b)) ⌝ }
+    ensures { λ r. ⌜ r ≡ size (now (b .entry)) (laneTrain side (now (b .entry)) k) ⌝ }
 {
     match side {
         Side::Rows => block::size(b, block::first(b, k)),
@@ -31,33 +31,33 @@ pub fn lines(b: &[i64], k: usize, side: Side) -> usize
     }
 }
 
-// Line x of pair k: its entries, whose costs go to choice x of the side's train.
-pub fn line(b: &[i64], k: usize, side: Side, x: usize) -> Run
-    requires { ⌜ (Shapely (now b)) × (k < pairs (now b)) × (x < size (now b) (lineTrain side (now b) k)) ⌝ }
-    ensures { λ r. ⌜ r ≡ lineRun side (now (b .entry)) k x ⌝ }
+// Lane x of pair k: its entries, whose costs go to choice x of the side's train.
+pub fn lane(b: &[i64], k: usize, side: Side, x: usize) -> PlaceRun
+    requires { ⌜ (ShapeInRange (now b)) × (k < pairs (now b)) × (x < size (now b) (laneTrain side (now b) k)) ⌝ }
+    ensures { λ r. ⌜ r ≡ laneRun side (now (b .entry)) k x ⌝ }
 {
     match side {
-        Side::Rows => Run {
+        Side::Rows => PlaceRun {
             from: block::entry_place(Block::HELD_ENTRIES_FROM, k, x, 0),
             step: 1,
-            count: lines(b, k, Side::Columns),
+            count: lanes(b, k, Side::Columns),
             to: block::choice_place(Block::HELD_CHOICES_FROM, block::first(b, k), x),
         },
-        Side::Columns => Run {
+        Side::Columns => PlaceRun {
             from: block::entry_place(Block::HELD_ENTRIES_FROM, k, 0, x),
             step: Block::CHOICES,
-            count: lines(b, k, Side::Rows),
+            count: lanes(b, k, Side::Rows),
             to: block::choice_place(Block::HELD_CHOICES_FROM, block::second(b, k), x),
         },
     }
 }
 
 // The choices of train i, whose costs go to the constant.
-pub fn choices(b: &[i64], i: usize) -> Run
-    requires { ⌜ (Shapely (now b)) × (i < trains (now b)) ⌝ }
+pub fn choices(b: &[i64], i: usize) -> PlaceRun
+    requires { ⌜ (ShapeInRange (now b)) × (i < trains (now b)) ⌝ }
     ensures { λ r. ⌜ r ≡ choicesRun (now (b .entry)) i ⌝ }
 {
-    Run {
+    PlaceRun {
         from: block::choice_place(Block::HELD_CHOICES_FROM, i, 0),
         step: 1,
         count: block::size(b, i),

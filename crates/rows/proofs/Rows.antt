@@ -12,11 +12,11 @@ use lib.IntN.{ℤ}
 use lib.ListN.{getD}
 use borrow.Author.Tests.{eq-eqb, ne-eqb}
 use Rattle.tables.specs.Sum.{sum}
-use Rattle.tables.specs.Block.{maxTrains, maxChoices, maxPairs, maxParts, trains, pairs, first, second, heldChoice, heldEntry}
+use Rattle.tables.specs.Block.{maxTrains, maxChoices, maxPairs, maxParts, trains, pairs, first, second, heldEntry}
 use Rattle.tables.specs.WellFormed.{Study}
 use Rattle.tables.proofs.Sum.{sum-none, sum-more, sum-cong, sum-most}
 use Rattle.tables.proofs.Study.{trains-range, pairs-range, size-range, held-choice-high, held-entry-high, first-below-second, pairs-ascend}
-use Rattle.rows.specs.Added.{pairAdded, added}
+use Rattle.rows.specs.Added.{rowAdded, sumBelow}
 use Rattle.rows.specs.Sums.{Summed, Steady, Carrying}
 use Rattle.rows.specs.Links.{ownRow, pairRow, Back, Begin}
 use Rattle.rows.specs.Table.{beginOf, rowFrom, Part, Owned}
@@ -33,21 +33,21 @@ sum-skip : (f : ℕ → ℕ) (k l : ℕ) → k ≤ l → ((i : ℕ) → k ≤ i 
 sum-skip f k l h g = let e : k + (l - k) ≡ l = omega arith in rw e at (sum-gap f k (l - k) (λ i p q. g i p (omega arith)))
 
 module _ (b : List ℤ) where
-  skipped-adds : (x : ℕ → ℕ) (j a i : ℕ) → (second b i ≡ j → ⊥) → pairAdded b x j a i ≡ 0
+  skipped-adds : (x : ℕ → ℕ) (j a i : ℕ) → (second b i ≡ j → ⊥) → rowAdded b x j a i ≡ 0
   skipped-adds x j a i n = rw (ne-eqb (second b i) j n)
 
   -- what a row holds
   pub back-sum : (x : ℕ → ℕ) (q : List ℕ) (f j k p a : ℕ) → Summed b x q f → Back b j k p → k ≤ f → j < trains b → a < maxChoices
-      → getD q (p + a) 0 ≡ heldChoice b j a + sum k (pairAdded b x j a)
+      → getD q (p + a) 0 ≡ sumBelow b x j a k
   back-sum x q f j k p a u (inl o) h g r =
       rw (o .place)
-      (omega (arith, u .own j a g r, sum-none (pairAdded b x j a), sum-skip (pairAdded b x j a) 0 k (omega arith) (λ i c d. skipped-adds x j a i (o .none i d))))
+      (omega (arith, u .own j a g r, sum-none (rowAdded b x j a), sum-skip (rowAdded b x j a) 0 k (omega arith) (λ i c d. skipped-adds x j a i (o .none i d))))
   back-sum x q f j k p a u (inr w) h g r =
       rw (w .place)
       (omega (
         arith,
         rw (w .here) at (u .rows (w .pair) a (omega (arith, w .low)) r),
-        sum-skip (pairAdded b x j a) (w .pair + 1) k (omega (arith, w .low)) (λ i c d. skipped-adds x j a i (w .skipped i (omega arith) d)),
+        sum-skip (rowAdded b x j a) (w .pair + 1) k (omega (arith, w .low)) (λ i c d. skipped-adds x j a i (w .skipped i (omega arith) d)),
       ))
 
   -- it stands before that of pair k
@@ -73,7 +73,7 @@ module _ (b : List ℤ) where
             omega (
               arith,
               u .rows k a p r,
-              sum-cong (k + 1) (pairAdded b x j a) (pairAdded b y j a)
+              sum-cong (k + 1) (rowAdded b x j a) (rowAdded b y j a)
                   (λ i c. ap (λ (v : ℕ). cond (eqb (second b i) j) (heldEntry b i v a) 0) (h (first b i) (g .before i (omega arith)))),
             );
       }
@@ -113,12 +113,12 @@ summed-more b l x q q₁ k c p n j u w e r t =
       own = λ i a h g. t .before (ownRow i + a) (omega arith) ∙ u .own i a h g;
       rows = λ i a h g.
           ⊎-elim
-          (λ (z : i ≡ k). rw z (omega (arith, t .inside a g, back-sum b x q k (second b k) k p a u w (omega arith) j g, r a g, sum-more k (pairAdded b x (second b k) a), this a)))
+          (λ (z : i ≡ k). rw z (omega (arith, t .inside a g, back-sum b x q k (second b k) k p a u w (omega arith) j g, r a g, sum-more k (rowAdded b x (second b k) a), this a)))
           (λ (z : i < k). t .before (pairRow i + a) (omega arith) ∙ u .rows i a z g)
           (eq-or-lt-of-le (omega arith));
     }
   where
-    this : (a : ℕ) → pairAdded b x (second b k) a k ≡ heldEntry b k c a
+    this : (a : ℕ) → rowAdded b x (second b k) a k ≡ heldEntry b k c a
     this a = rw (eq-eqb (second b k) (second b k) refl, e)
 
 module _ {b : List ℤ} (s : Study b) where
@@ -135,13 +135,12 @@ module _ {b : List ℤ} (s : Study b) where
       })
 
   -- the row of a train that is opened
-  pub end-sum : (x : ℕ → ℕ) (q : List ℕ) (t f p a : ℕ) → t < trains b → a < maxChoices → Begin b t f → Back b t (pairs b) p → Summed b x q f → getD q (p + a) 0 ≡ added b x t a
-  unfolding added
+  pub end-sum : (x : ℕ → ℕ) (q : List ℕ) (t f p a : ℕ) → t < trains b → a < maxChoices → Begin b t f → Back b t (pairs b) p → Summed b x q f → getD q (p + a) 0 ≡ sumBelow b x t a (pairs b)
   end-sum x q t f p a h r g e u =
       omega (
         arith,
         back-sum b x q f t f p a u (end-back t f p g e) (omega arith) h r,
-        sum-skip (pairAdded b x t a) f (pairs b) (g .high)
+        sum-skip (rowAdded b x t a) f (pairs b) (g .high)
             (λ i c d. skipped-adds b x t a i (λ k. omega (arith, g .after i c d, first-below-second s i d))),
       )
 
@@ -150,11 +149,11 @@ module _ {b : List ℤ} (s : Study b) where
 
   -- a pair's row fits a number of 64 bits
   pub row-low : (x : ℕ → ℕ) (j k a : ℕ) → j < trains b → a < maxChoices → k ≤ pairs b → ((i : ℕ) → i < k → x (first b i) < maxChoices)
-      → heldChoice b j a + sum k (pairAdded b x j a) ≤ maxParts + k * maxParts
+      → sumBelow b x j a k ≤ maxParts + k * maxParts
   row-low x j k a h r l g =
-      omega (arith, held-choice-high s j a (omega (arith, trains-range s)) r, sum-most k maxParts (pairAdded b x j a) (λ i c. at-pair i c))
+      omega (arith, held-choice-high s j a (omega (arith, trains-range s)) r, sum-most k maxParts (rowAdded b x j a) (λ i c. at-pair i c))
     where
-      at-pair : (i : ℕ) → i < k → pairAdded b x j a i ≤ maxParts
+      at-pair : (i : ℕ) → i < k → rowAdded b x j a i ≤ maxParts
       at-pair i c =
           dite (ℕ-discrete (second b i) j)
           (λ (e : second b i ≡ j). rw (eq-eqb (second b i) j e) (held-entry-high s i (x (first b i)) a (omega (arith, pairs-range s)) (g i c) r))

@@ -1,6 +1,5 @@
--- The rule: what a choice adds.
+-- What the contracts of the crate cite: what choices come to, the table, its rows, and what they hold.
 pub mod Added
--- What the contracts of the crate cite besides: the table, its rows, and what they hold.
 pub mod Links
 pub mod Table
 pub mod Sums

@@ -4,10 +4,9 @@ use mathlib.Core.List.{List}
 use Prim.Native.Nat.{ℕ, _+_, _<_}
 use lib.IntN.{ℤ}
 use lib.ListN.{length, getD}
-use Rattle.tables.specs.Sum.{sum}
 use Rattle.tables.specs.Block.{maxChoices, trains, size, second, heldChoice}
 use Rattle.tables.specs.WellFormed.{Study}
-use Rattle.rows.specs.Added.{choicesOf, pairAdded}
+use Rattle.rows.specs.Added.{choicesOf, sumBelow}
 use Rattle.rows.specs.Links.{ownRow, pairRow, sumsLength}
 use Rattle.rows.specs.Table.{beginOf, Laid}
 
@@ -20,7 +19,7 @@ pub record Sums (f : ℕ → ℕ) (l : List ℕ) : Type 0 where
 pub record Summed (b : List ℤ) (x : ℕ → ℕ) (q : List ℕ) (f : ℕ) : Type 0 where
   pub whole : length q ≡ sumsLength
   pub own : (j a : ℕ) → j < trains b → a < maxChoices → getD q (ownRow j + a) 0 ≡ heldChoice b j a
-  pub rows : (k a : ℕ) → k < f → a < maxChoices → getD q (pairRow k + a) 0 ≡ heldChoice b (second b k) a + sum (k + 1) (pairAdded b x (second b k) a)
+  pub rows : (k a : ℕ) → k < f → a < maxChoices → getD q (pairRow k + a) 0 ≡ sumBelow b x (second b k) a (k + 1)
 
 -- the rows before that of pair f stay
 pub record Steady (f : ℕ) (q q₁ : List ℕ) : Type 0 where

@@ -9,14 +9,16 @@ use native.Mathlib.Omega.{arith}
 use lib.IntN.{ℤ}
 use lib.ListN.{length, getD, set, length-set}
 use lib.Seq.{getD-set-same, getD-set-other}
-use Rattle.tables.specs.Block.{maxTrains, trains, size}
+use Rattle.tables.specs.Block.{maxTrains, trains}
 use Rattle.tables.specs.WellFormed.{Study}
+use Rattle.tables.specs.Plans.{Shape, Costs, shapeOf, heldCosts}
 use Rattle.tables.proofs.Study.{trains-range}
-use Rattle.rows.specs.Added.{choicesOf, added}
+use Rattle.rows.specs.Added.{choicesOf}
 use Rattle.search.specs.declared.walk.Walk.{Walk}
-use Rattle.search.specs.Walk.{oneTry, triedFrom, choiceTry, openedTrain}
-use Rattle.search.specs.Held.{Alike, Decided, tryOf}
-use Rattle.search.proofs.Totals.{added-cong, partial-cong}
+use Rattle.search.specs.Walk.{added, Decided, oneTry, triedFrom, choiceTry, openedTrain}
+use Rattle.search.specs.Held.{Alike, tryOf}
+use Rattle.search.proofs.Totals.{Walkable, added-cong, partial-cong}
+use Rattle.search.proofs.Studies.{study-walkable}
 
 -- lists that agree everywhere
 list-same : (x y : List ℕ) → length x ≡ length y → ((i : ℕ) → getD x i 0 ≡ getD y i 0) → x ≡ y
@@ -58,39 +60,41 @@ alike-next {t} {n} a {x} {y} h l p =
       after = λ i q. getD-set-other x t i a 0 (λ f. omega arith) ∙ p .after i q ∙ sym (getD-set-other y t i a 0 (λ f. omega arith));
     }
 
-module _ {b : List ℤ} (s : Study b) (budget : ℕ) where
+module _ {s : Shape} (o : Walkable s) (c : Costs) where
   -- a try, given that the next train is
-  choice-alike : (next : ℕ → List ℕ → Walk → Walk) (t partial a : ℕ) (x y : List ℕ) → ((i : ℕ) → i < t → getD x i 0 ≡ getD y i 0)
+  choice-alike : (budget : ℕ) (next : ℕ → List ℕ → Walk → Walk) (t partial a : ℕ) (x y : List ℕ)
+      → ((i : ℕ) → i < t + 1 → choicesOf (set x t a) i ≡ choicesOf (set y t a) i)
       → ((total : ℕ) (u : Walk) → next total (set x t a) u ≡ next total (set y t a) u)
-      → (v : Walk) → choiceTry b budget next t partial x a v ≡ choiceTry b budget next t partial y a v
-  choice-alike next t partial a x y h n v =
-      let total = partial + added b (choicesOf y) t a in
-      ap (λ (z : ℕ). oneTry budget (partial + z) (next (partial + z) (set x t a)) v) (added-cong s (choicesOf x) (choicesOf y) t a h)
+      → (v : Walk) → choiceTry s c budget next t partial x a v ≡ choiceTry s c budget next t partial y a v
+  choice-alike budget next t partial a x y h n v =
+      let total = partial + added s c (choicesOf (set y t a)) t in
+      ap (λ (z : ℕ). oneTry budget (partial + z) (next (partial + z) (set x t a)) v) (added-cong o c (choicesOf (set x t a)) (choicesOf (set y t a)) t h)
       ∙ (λ i. oneTry budget total (λ u. n total u i) v)
 
-  pub opened-alike : (left t partial : ℕ) (x y : List ℕ) → t + left ≡ trains b → length x ≡ maxTrains → Alike t (trains b) x y
-      → (w : Walk) → openedTrain b budget left t partial x w ≡ openedTrain b budget left t partial y w
+  pub opened-alike : (budget left t partial : ℕ) (x y : List ℕ) → t + left ≡ s .trains → length x ≡ maxTrains → Alike t (s .trains) x y
+      → (w : Walk) → openedTrain s c budget left t partial x w ≡ openedTrain s c budget left t partial y w
   unfolding openedTrain
-  opened-alike zero t partial x y e l p w =
-      let f : x ≡ y = list-same x y (p .same) (λ i. dite (decLt i (trains b)) (λ q. p .before i (omega arith)) (λ q. p .after i (omega arith))) in
+  opened-alike budget zero t partial x y e l p w =
+      let f : x ≡ y = list-same x y (p .same) (λ i. dite (decLt i (s .trains)) (λ q. p .before i (omega arith)) (λ q. p .after i (omega arith))) in
       rw f
-  opened-alike (suc left) t partial x y e l p w =
-      λ i. triedFrom (λ a v. choice-alike (openedTrain b budget left (t + 1)) t partial a x y (p .before)
-      (λ total u. opened-alike left (t + 1) total (set x t a) (set y t a) (omega arith) (length-set x t a ∙ l)
-      (alike-next a (omega arith) (omega (arith, l, trains-range s)) p) u) v i) (size b t) 0 w
+  opened-alike budget (suc left) t partial x y e l p w =
+      let next : (a : ℕ) → Alike (t + 1) (s .trains) (set x t a) (set y t a) = λ a. alike-next a (omega arith) (omega (arith, l, o .room)) p in
+      λ i. triedFrom (λ a v. choice-alike budget (openedTrain s c budget left (t + 1)) t partial a x y (next a .before)
+      (λ total u. opened-alike budget left (t + 1) total (set x t a) (set y t a) (omega arith) (length-set x t a ∙ l) (next a) u) v i) (s .size t) 0 w
 
-  pub try-alike : (t a total : ℕ) (x y : List ℕ) → t < trains b → length x ≡ maxTrains → Alike t (trains b) x y
-      → (w : Walk) → tryOf b budget t total x a w ≡ tryOf b budget t total y a w
-  unfolding tryOf
-  try-alike t a total x y h l p w =
-      let q = alike-next a h (omega (arith, l, trains-range s)) p in
-      λ i. oneTry budget total (λ u. opened-alike (trains b - (t + 1)) (t + 1) total (set x t a) (set y t a) (omega arith) (length-set x t a ∙ l) q u i) w
+  -- where trains are decided
+  pub decided-alike : (t n partial : ℕ) (x y : List ℕ) → Alike t n x y → Decided s c t partial x → Decided s c t partial y
+  decided-alike t n partial x y p d =
+      record {
+        whole = sym (p .same) ∙ d .whole;
+        below = λ i h. rw (← p .before i h) (d .below i h);
+        total = d .total ∙ partial-cong o c (choicesOf x) (choicesOf y) t (p .before);
+      }
 
--- where trains are decided
-pub decided-alike : {b : List ℤ} → Study b → (t n partial : ℕ) (x y : List ℕ) → Alike t n x y → Decided b t partial x → Decided b t partial y
-decided-alike s t n partial x y p d =
-    record {
-      whole = sym (p .same) ∙ d .whole;
-      below = λ i h. rw (← p .before i h) (d .below i h);
-      total = d .total ∙ partial-cong s (choicesOf x) (choicesOf y) t (p .before);
-    }
+-- in the terms of the code
+pub try-alike : {b : List ℤ} → Study b → (budget t a total : ℕ) (x y : List ℕ) → t < trains b → length x ≡ maxTrains → Alike t (trains b) x y
+    → (w : Walk) → tryOf b budget t total x a w ≡ tryOf b budget t total y a w
+unfolding tryOf shapeOf
+try-alike {b} s budget t a total x y h l p w =
+    let q = alike-next a h (omega (arith, l, trains-range s)) p in
+    λ i. oneTry budget total (λ u. opened-alike (study-walkable s) (heldCosts b) budget (trains b - (t + 1)) (t + 1) total (set x t a) (set y t a) (omega arith) (length-set x t a ∙ l) q u i) w

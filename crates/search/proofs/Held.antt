@@ -9,9 +9,10 @@ use lib.IntN.{ℤ}
 use lib.ListN.{getD, set}
 use borrow.Author.Tests.{lt-ltb, le-leb, lt-leb, eq-eqb, ne-eqb}
 use Rattle.units.specs.Units.{theParts}
-use Rattle.tables.specs.Block.{maxChoices, trains, pairs, size}
+use Rattle.tables.specs.Block.{maxChoices, trains, size}
+use Rattle.tables.specs.Plans.{shapeOf, heldCosts}
 use Rattle.tables.proofs.Study.{trains-range, pairs-range}
-use Rattle.rows.specs.Added.{choicesOf, added}
+use Rattle.rows.specs.Added.{choicesOf}
 use Rattle.rows.specs.Sums.{Steady, Carrying, Sums}
 use Rattle.search.specs.declared.walk.Walk.{Walk}
 use Rattle.search.specs.Walk.{counted, wholePlan, dropped, noChoices, nothingTried}
@@ -20,9 +21,12 @@ use Rattle.rows.specs.Links.{sumsLength}
 use Rattle.rows.specs.Table.{endsFrom, trainsPlace, beginOf}
 use Rattle.rows.proofs.Rows.{steady-refl, summed-cong, summed-steady, end-sum, end-low}
 use Rattle.rows.proofs.Written.{kept}
-use Rattle.search.proofs.Totals.{decided-low, decided-next, room}
+use Rattle.search.proofs.Totals.{decided-next}
+use Rattle.search.proofs.Room.{decided-low, comes-low}
 use Rattle.search.proofs.Alike.{alike-next, try-alike, decided-alike}
-use Rattle.search.proofs.Tries.{try-spent, try-out, try-dropped, try-whole, try-opens, more-left}
+use Rattle.search.proofs.Tries.{more-left}
+use Rattle.search.proofs.Studies.{study-walkable, study-limited}
+use Rattle.search.proofs.Coded.{added-row, try-spent, try-out, try-dropped, try-whole, try-opens}
 
 -- walks whose tries agree
 same-tries : (c d : ℕ) (s r : Bool) (f : Bool) (t : ℕ) (plan : List ℕ) → c ≡ d → s ≡ r
@@ -92,13 +96,15 @@ held-start budget = same-tries (budget - (budget + 1 - 1)) 0 (eqb (budget + 1) 0
 -- ---- where a try stands
 
 pub trying-low : {b : List ℤ} {l q : List ℕ} {t a total : ℕ} {chosen : List ℕ} → Trying b l q t a total chosen → total < unknown
+unfolding shapeOf
 trying-low {b} {l} {q} {t} {a} {total} {chosen} p =
-    omega (arith, decided-low (p .study) (t + 1) total (set chosen t a) (omega (arith, p .train)) (p .decided), trains-range (p .study), p .train)
+    omega (arith, decided-low (study-walkable (p .study)) (study-limited (p .study)) (t + 1) total (set chosen t a) (omega (arith, p .train)) (p .decided), trains-range (p .study), p .train)
 
 module _ {b : List ℤ} {l q r : List ℕ} {t partial a sum : ℕ} {x y : List ℕ} (p : At b l q t partial x) (h : a < size b t) (e : sum ≡ comesTo b t partial x a)
     (k : Alike t (getD l trainsPlace 0) x y) (u : Steady (beginOf l t) q r) where
   -- the choices and the rows of the trains left may be any
   pub trying-at : Trying b l r t a sum y
+  unfolding shapeOf
   trying-at =
       let g = alike-next a (p .train) (omega (arith, p .train, trains-range (p .study), p .decided .whole)) (rw (p .laid .n) at k) in
       record {
@@ -106,7 +112,7 @@ module _ {b : List ℤ} {l q r : List ℕ} {t partial a sum : ℕ} {x y : List �
         laid = p .laid;
         train = p .train;
         choice = h;
-        decided = rw e (decided-alike (p .study) (t + 1) (trains b) _ _ _ g (decided-next (p .study) t a partial x (p .train) h (p .decided)));
+        decided = rw e (decided-alike (study-walkable (p .study)) (heldCosts b) (t + 1) (trains b) _ _ _ g (decided-next (study-walkable (p .study)) (heldCosts b) t a partial x (p .train) h (p .decided)));
         summed = summed-cong b (choicesOf x) (choicesOf y) r t (beginOf l t) (p .laid .begins t (omega (arith, p .train))) (k .before)
             (summed-steady b (choicesOf x) q r (beginOf l t) (trains-range (p .study) .1) u (p .summed));
       }
@@ -124,7 +130,12 @@ at-row {b} {l} {q} {r} {t} {partial} {x} p u a h =
     let g = p .laid .begins t (omega (arith, p .train)) in
     let e = p .laid .ends t (p .train) in
     let low = end-low (p .study) t (beginOf l t) (getD l (endsFrom + t) 0) (p .train) g e in
-    omega (arith, u .stays (getD l (endsFrom + t) 0 + a) (omega arith), end-sum (p .study) (choicesOf x) q t (beginOf l t) (getD l (endsFrom + t) 0) a (p .train) h g e (p .summed))
+    omega (
+      arith,
+      u .stays (getD l (endsFrom + t) 0 + a) (omega arith),
+      end-sum (p .study) (choicesOf x) q t (beginOf l t) (getD l (endsFrom + t) 0) a (p .train) h g e (p .summed),
+      added-row (p .study) t a x (p .train) (p .decided .whole),
+    )
 
 -- so the row, with the partial total, is what the choices come to
 pub at-sums : {b : List ℤ} {l q : List ℕ} {t partial : ℕ} {x row : List ℕ} → At b l q t partial x
@@ -134,9 +145,9 @@ at-sums p r = record { whole = r .whole; each = λ a h. r .each a h ∙ at-row p
 -- and it fits a number of 64 bits
 pub at-room : {b : List ℤ} {l q r : List ℕ} {t partial : ℕ} {x : List ℕ} → At b l q t partial x → Steady (beginOf l t) q r → (a : ℕ) → a < maxChoices
     → partial + getD r (getD l (endsFrom + t) 0 + a) 0 < 2 ^ 63
-unfolding added
+unfolding shapeOf
 at-room {b} {l} {q} {r} {t} {partial} {x} p u a h =
-    omega (arith, at-row p u a h, room (p .study) t a partial x (p .train) h (p .decided) (pairs b) (omega arith))
+    omega (arith, at-row p u a h, comes-low (study-walkable (p .study)) (study-limited (p .study)) t a partial x (p .train) h (p .decided))
 
 -- the train's row is one of the sums
 pub at-place : {b : List ℤ} {l q : List ℕ} {t partial : ℕ} {x : List ℕ} → At b l q t partial x → getD l (endsFrom + t) 0 + maxChoices ≤ sumsLength
@@ -146,6 +157,7 @@ at-place {b} {l} {q} {t} {partial} {x} p =
 
 -- a choice that is written, before it is carried
 pub carrying-at : {b : List ℤ} {l q : List ℕ} {t a total : ℕ} {x : List ℕ} → Trying b l q t a total x → Carrying b l q t (set x t a)
+unfolding shapeOf
 carrying-at {b} {l} {q} {t} {a} {total} {x} p =
     record {
       study = p .study;

@@ -1,154 +1,92 @@
--- The partial total: what a choice adds depends on the trains before it only, and over all trains the partial total is the plan's total.
-use mathlib.Core.Path.{_≡_, refl, sym, ap, _∙_}
+-- The partial total: what a train adds depends on the trains up to it only, each pair is counted once, at its second train, and so over all trains the partial total is the plan's total.
+use mathlib.Core.Path.{_≡_, refl, ap, ap₂}
 use mathlib.Core.Bool.{cond}
 use mathlib.Core.List.{List}
 use mathlib.Core.Logic.{dite}
-use Prim.Native.Nat.{ℕ, zero, suc, _+_, _*_, _^_, _<_, _≤_}
+use Prim.Native.Nat.{ℕ, zero, suc, _+_, _<_, _≤_}
 use native.Mathlib.Decide.{ℕ-discrete}
 use native.Mathlib.Omega.{arith}
 use lib.Dec.{eqb}
-use lib.IntN.{ℤ}
 use lib.ListN.{length, set, length-set}
-use lib.Seq.{getD-set-same}
-use borrow.Author.Tests.{eq-eqb, ne-eqb}
+use borrow.Author.Tests.{ne-eqb}
 use Rattle.tables.specs.Sum.{sum}
-use Rattle.tables.specs.Block.{maxChoices, maxPairs, maxParts, trains, pairs, constant, size, first, second, heldChoice, heldEntry}
-use Rattle.tables.specs.WellFormed.{Study}
-use Rattle.tables.specs.Plans.{choiceTotal, pairTotal, total, shapeOf, heldCosts, heldTotal}
-use Rattle.tables.proofs.Sum.{sum-none, sum-more, sum-cong, sum-most, sum-add, sum-swap, sum-pick}
-use Rattle.tables.proofs.Study.{held-choice-high, held-entry-high, trains-range, pairs-range, constant-range, size-range, first-below-second, second-below-trains}
-use Rattle.rows.specs.Added.{choicesOf, pairAdded, added}
-use Rattle.search.specs.Walk.{partialTotal, noChoices}
-use Rattle.search.specs.Held.{Decided}
+use Rattle.tables.specs.Block.{maxTrains}
+use Rattle.tables.specs.Plans.{Shape, Costs, choiceTotal, pairTotal, total}
+use Rattle.tables.proofs.Sum.{sum-none, sum-more, sum-cong, sum-add, sum-swap, sum-pick}
+use Rattle.tables.proofs.Plans.{Shaped}
+use Rattle.rows.specs.Added.{choicesOf}
 use Rattle.rows.proofs.Written.{written, kept}
+use Rattle.search.specs.Walk.{pairAdded, added, partialTotal, Decided, noChoices}
 
--- the most that a choice adds: its own cost, and one of each pair
-abbrev pub maxAdded : ℕ
-maxAdded = maxParts * (1 + maxPairs)
+-- what the laws of the walk ask of a shape besides: a list of choices has a place for each train
+pub record Walkable (s : Shape) : Type 0 where
+  pub shaped : Shaped s
+  pub room : s .trains ≤ maxTrains
 
 -- the next train
-pub partial-more : (b : List ℤ) (x : ℕ → ℕ) (t : ℕ) → partialTotal b x (t + 1) ≡ partialTotal b x t + added b x t (x t)
+pub partial-more : (s : Shape) (c : Costs) (x : ℕ → ℕ) (t : ℕ) → partialTotal s c x (t + 1) ≡ partialTotal s c x t + added s c x t
 unfolding partialTotal
-partial-more b x t = omega (arith, sum-more t (λ i. added b x i (x i)))
+partial-more s c x t = omega (arith, sum-more t (added s c x))
 
 -- the partial total never falls
-pub partial-rises : (b : List ℤ) (x : ℕ → ℕ) (t d : ℕ) → partialTotal b x t ≤ partialTotal b x (t + d)
-partial-rises b x t zero = let e : t + 0 ≡ t = omega arith in rw e (omega arith)
-partial-rises b x t (suc d) =
+pub partial-rises : (s : Shape) (c : Costs) (x : ℕ → ℕ) (t d : ℕ) → partialTotal s c x t ≤ partialTotal s c x (t + d)
+partial-rises s c x t zero = let e : t + 0 ≡ t = omega arith in rw e (omega arith)
+partial-rises s c x t (suc d) =
     let e : t + suc d ≡ (t + d) + 1 = omega arith in
-    rw e (omega (arith, partial-more b x (t + d), partial-rises b x t d))
+    rw e (omega (arith, partial-more s c x (t + d), partial-rises s c x t d))
 
-module _ {b : List ℤ} (s : Study b) where
-  -- ---- what a choice adds
+module _ {s : Shape} (o : Walkable s) (c : Costs) where
+  -- ---- what a train adds
 
   -- pairs come before their second train
-  pub added-cong : (x y : ℕ → ℕ) (t a : ℕ) → ((i : ℕ) → i < t → x i ≡ y i) → added b x t a ≡ added b y t a
+  pub added-cong : (x y : ℕ → ℕ) (t : ℕ) → ((i : ℕ) → i < t + 1 → x i ≡ y i) → added s c x t ≡ added s c y t
   unfolding added
-  added-cong x y t a h = omega (arith, sum-cong (pairs b) (pairAdded b x t a) (pairAdded b y t a) at-pair)
+  added-cong x y t same = ap₂ _+_ (ap (c .choice t) (same t (omega arith))) (sum-cong (s .pairs) _ _ at-pair)
     where
-      at-pair : (k : ℕ) → k < pairs b → pairAdded b x t a k ≡ pairAdded b y t a k
-      at-pair k q =
-          dite (ℕ-discrete (second b k) t)
-          (λ (e : second b k ≡ t). rw (h (first b k) (omega (arith, first-below-second s k q))))
-          (λ n. rw (ne-eqb (second b k) t n))
+      at-pair : (k : ℕ) → k < s .pairs → pairAdded s c x t k ≡ pairAdded s c y t k
+      at-pair k h =
+          dite (ℕ-discrete (s .second k) t)
+          (λ (e : s .second k ≡ t). ap (λ (v : ℕ). cond (eqb (s .second k) t) v 0)
+          (ap₂ (c .pair k) (same (s .first k) (omega (arith, o .shaped .ascends k h))) (same (s .second k) (omega arith))))
+          (λ n. rw (ne-eqb (s .second k) t n))
 
-  pub partial-cong : (x y : ℕ → ℕ) (t : ℕ) → ((i : ℕ) → i < t → x i ≡ y i) → partialTotal b x t ≡ partialTotal b y t
+  pub partial-cong : (x y : ℕ → ℕ) (t : ℕ) → ((i : ℕ) → i < t → x i ≡ y i) → partialTotal s c x t ≡ partialTotal s c y t
   unfolding partialTotal
-  partial-cong x y t h =
-      omega (
-        arith,
-        sum-cong t (λ i. added b x i (x i)) (λ i. added b y i (y i))
-            (λ i q. added-cong x y i (x i) (λ j r. h j (omega arith)) ∙ ap (added b y i) (h i q)),
-      )
-
-  module _ (x : ℕ → ℕ) (t a : ℕ) (p : t < trains b) (q : a < maxChoices) (below : (i : ℕ) → i < t → x i < size b i) where
-    pair-added-low : (k : ℕ) → k < pairs b → pairAdded b x t a k ≤ maxParts
-    pair-added-low k h =
-        dite (ℕ-discrete (second b k) t)
-        (λ (e : second b k ≡ t). rw (eq-eqb (second b k) t e)
-        (let f : first b k < t = omega (arith, first-below-second s k h) in
-        held-entry-high s k (x (first b k)) a (omega (arith, pairs-range s)) (omega (arith, below (first b k) f, size-range s (first b k) (omega arith))) q))
-        (λ n. rw (ne-eqb (second b k) t n) (omega arith))
-
-    pairs-added-low : (k : ℕ) → k ≤ pairs b → sum k (pairAdded b x t a) ≤ k * maxParts
-    pairs-added-low k h = sum-most k maxParts (pairAdded b x t a) (λ i r. pair-added-low i (omega arith))
-
-    added-low : added b x t a ≤ maxAdded
-    unfolding added
-    added-low = omega (arith, held-choice-high s t a (omega (arith, trains-range s)) q, pairs-added-low (pairs b) (omega arith), pairs-range s)
+  partial-cong x y t same = omega (arith, sum-cong t (added s c x) (added s c y) (λ i h. added-cong x y i (λ j r. same j (omega arith))))
 
   -- ---- trains decided
 
-  pub decided-low : (t partial : ℕ) (chosen : List ℕ) → t ≤ trains b → Decided b t partial chosen → partial ≤ maxParts + t * maxAdded
-  unfolding partialTotal
-  decided-low t partial chosen h d =
-      omega (
-        arith,
-        d .total,
-        constant-range s,
-        sum-most t maxAdded (λ i. added b (choicesOf chosen) i (choicesOf chosen i))
-            (λ i q. added-low (choicesOf chosen) i (choicesOf chosen i) (omega arith) (omega (arith, d .below i q, size-range s i (omega arith))) (λ j r. d .below j (omega arith))),
-      )
-
-  -- a partial total and what the first k pairs add fit a number of 64 bits
-  pub room : (t a partial : ℕ) (chosen : List ℕ) → t < trains b → a < maxChoices → Decided b t partial chosen
-      → (k : ℕ) → k ≤ pairs b → partial + heldChoice b t a + sum k (pairAdded b (choicesOf chosen) t a) < 2 ^ 63
-  room t a partial chosen h q d k l =
-      omega (
-        arith,
-        trains-range s,
-        pairs-range s,
-        decided-low t partial chosen (omega arith) d,
-        held-choice-high s t a (omega (arith, trains-range s)) q,
-        pairs-added-low (choicesOf chosen) t a h q (d .below) k l,
-      )
-
-  pub decided-start : Decided b 0 (constant b) noChoices
+  pub decided-start : Decided s c 0 (c .constant) noChoices
   unfolding partialTotal
   decided-start =
       record {
         whole = refl;
         below = λ i h. absurd (omega arith);
-        total = omega (arith, sum-none (λ i. added b (choicesOf noChoices) i (choicesOf noChoices i)));
+        total = omega (arith, sum-none (added s c (choicesOf noChoices)));
       }
 
-  pub decided-next : (t a partial : ℕ) (chosen : List ℕ) → t < trains b → a < size b t → Decided b t partial chosen
-      → Decided b (t + 1) (partial + added b (choicesOf chosen) t a) (set chosen t a)
+  pub decided-next : (t a partial : ℕ) (chosen : List ℕ) → t < s .trains → a < s .size t → Decided s c t partial chosen
+      → Decided s c (t + 1) (partial + added s c (choicesOf (set chosen t a)) t) (set chosen t a)
   decided-next t a partial chosen h q d =
-      let l : t < length chosen = omega (arith, d .whole, trains-range s) in
-      let x = choicesOf (set chosen t a) in
+      let y = choicesOf (set chosen t a) in
+      let l : t < length chosen = omega (arith, d .whole, o .room) in
       record {
         whole = simp length-set (d .whole);
-        below = written (λ i v. v < size b i) chosen t a l (d .below) q;
-        total = omega (
-          arith,
-          d .total,
-          partial-more b x t,
-          partial-cong x (choicesOf chosen) t (λ i r. kept chosen t a i r),
-          added-cong x (choicesOf chosen) t (x t) (λ i r. kept chosen t a i r),
-          ap (added b (choicesOf chosen) t) (getD-set-same chosen t a 0 l),
-        );
+        below = written (λ i v. v < s .size i) chosen t a l (d .below) q;
+        total = omega (arith, d .total, partial-more s c y t, partial-cong y (choicesOf chosen) t (kept chosen t a));
       }
 
   -- ---- all trains decided
 
-  -- each pair is counted once, at its second train
-  pub partial-whole : (x : ℕ → ℕ) → partialTotal b x (trains b) ≡ heldTotal b x
-  unfolding partialTotal added total choiceTotal pairTotal shapeOf heldCosts
+  -- each pair is counted once
+  pub partial-whole : (x : ℕ → ℕ) → partialTotal s c x (s .trains) ≡ total s c x
+  unfolding partialTotal added total choiceTotal pairTotal
   partial-whole x =
-      let n = trains b in
+      let n = s .trains in
       omega (
         arith,
-        sum-add n (λ i. heldChoice b i (x i)) (λ i. sum (pairs b) (pairAdded b x i (x i))),
-        sum-swap n (pairs b) (λ i k. pairAdded b x i (x i) k),
-        sum-cong (pairs b) (λ k. sum n (λ i. pairAdded b x i (x i) k)) (λ k. heldEntry b k (x (first b k)) (x (second b k))) at-pair,
+        sum-add n (λ i. c .choice i (x i)) (λ i. sum (s .pairs) (pairAdded s c x i)),
+        sum-swap n (s .pairs) (λ i k. pairAdded s c x i k),
+        sum-cong (s .pairs) (λ k. sum n (λ i. pairAdded s c x i k)) (λ k. c .pair k (x (s .first k)) (x (s .second k)))
+            (λ k h. sum-pick n (s .second k) _ (o .shaped .inside k h)),
       )
-    where
-      only : (k i : ℕ) → Dec (second b k ≡ i) → pairAdded b x i (x i) k ≡ cond (eqb (second b k) i) (heldEntry b k (x (first b k)) (x (second b k))) 0
-      only k i (yes e) = ap (λ (j : ℕ). cond (eqb (second b k) i) (heldEntry b k (x (first b k)) (x j)) 0) (sym e)
-      only k i (no e) = rw (ne-eqb (second b k) i e)
-
-      at-pair : (k : ℕ) → k < pairs b → sum (trains b) (λ i. pairAdded b x i (x i) k) ≡ heldEntry b k (x (first b k)) (x (second b k))
-      at-pair k h =
-          sum-cong (trains b) _ _ (λ i q. only k i (ℕ-discrete (second b k) i))
-          ∙ sum-pick (trains b) (second b k) (heldEntry b k (x (first b k)) (x (second b k))) (second-below-trains s k h)

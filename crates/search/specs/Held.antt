@@ -7,11 +7,12 @@ use lib.Dec.{ltb, eqb}
 use lib.IntN.{ℤ}
 use lib.ListN.{length, getD, set}
 use Rattle.units.specs.Units.{theParts}
-use Rattle.tables.specs.Block.{maxTrains, trains, size}
+use Rattle.tables.specs.Block.{trains, size}
 use Rattle.tables.specs.WellFormed.{Study}
-use Rattle.rows.specs.Added.{choicesOf, added}
+use Rattle.tables.specs.Plans.{shapeOf, heldCosts}
+use Rattle.rows.specs.Added.{choicesOf}
 use Rattle.search.specs.declared.walk.Walk.{Walk}
-use Rattle.search.specs.Walk.{partialTotal, oneTry, triedFrom, openedTrain}
+use Rattle.search.specs.Walk.{added, Decided, oneTry, triedFrom, openedTrain}
 use Rattle.rows.specs.Table.{trainsPlace, beginOf, Laid}
 use Rattle.rows.specs.Sums.{Summed, Steady}
 
@@ -34,11 +35,11 @@ walkOf budget left best plan =
 
 -- what choice a of train t comes to
 abbrev pub comesTo : List ℤ → ℕ → ℕ → List ℕ → ℕ → ℕ
-comesTo b t partial chosen a = partial + added b (choicesOf chosen) t a
+comesTo b t partial chosen a = partial + added (shapeOf b) (heldCosts b) (choicesOf (set chosen t a)) t
 
 -- the try of choice a at train t, which comes to `total`
 unfoldable pub tryOf : List ℤ → ℕ → ℕ → ℕ → List ℕ → ℕ → Walk → Walk
-tryOf b budget t total chosen a = oneTry budget total (openedTrain b budget (trains b - (t + 1)) (t + 1) total (set chosen t a))
+tryOf b budget t total chosen a = oneTry budget total (openedTrain (shapeOf b) (heldCosts b) budget (trains b - (t + 1)) (t + 1) total (set chosen t a))
 
 abbrev pub choiceOf : List ℤ → ℕ → ℕ → ℕ → List ℕ → ℕ → Walk → Walk
 choiceOf b budget t partial chosen a = tryOf b budget t (comesTo b t partial chosen a) chosen a
@@ -47,13 +48,7 @@ choiceOf b budget t partial chosen a = tryOf b budget t (comesTo b t partial cho
 abbrev pub choicesFrom : List ℤ → ℕ → ℕ → ℕ → ℕ → List ℕ → Walk → Walk
 choicesFrom b budget t a partial chosen = triedFrom (choiceOf b budget t partial chosen) (size b t - a) a
 
--- ---- the choices and the sums
-
--- the first t trains are decided: each has one of its choices, and the partial total is theirs
-pub record Decided (b : List ℤ) (t partial : ℕ) (chosen : List ℕ) : Type 0 where
-  pub whole : length chosen ≡ maxTrains
-  pub below : (i : ℕ) → i < t → getD chosen i 0 < size b i
-  pub total : partial ≡ partialTotal b (choicesOf chosen) t
+-- ---- the choices
 
 -- two lists of choices that differ at trains from t on only
 pub record Alike (t n : ℕ) (x y : List ℕ) : Type 0 where
@@ -68,7 +63,7 @@ pub record At (b : List ℤ) (l q : List ℕ) (t partial : ℕ) (chosen : List �
   pub study : Study b
   pub laid : Laid b l
   pub train : t < trains b
-  pub decided : Decided b t partial chosen
+  pub decided : Decided (shapeOf b) (heldCosts b) t partial chosen
   pub summed : Summed b (choicesOf chosen) q (beginOf l t)
 
 -- or its choice a is tried: with it, train t is decided too
@@ -77,7 +72,7 @@ pub record Trying (b : List ℤ) (l q : List ℕ) (t a total : ℕ) (chosen : Li
   pub laid : Laid b l
   pub train : t < trains b
   pub choice : a < size b t
-  pub decided : Decided b (t + 1) total (set chosen t a)
+  pub decided : Decided (shapeOf b) (heldCosts b) (t + 1) total (set chosen t a)
   pub summed : Summed b (choicesOf chosen) q (beginOf l t)
 
 -- so stands some study that has this table

@@ -1,21 +1,38 @@
--- Document 01, '06 search': the walk over plans.
-use mathlib.Core.Bool.{Bool, true, false, _&&_}
+-- Document 01, '06 search': the walk over plans, of a problem's shape and costs. A block's walk is that of its shape and its held costs.
+use mathlib.Core.Path.{_≡_}
+use mathlib.Core.Bool.{Bool, true, false, cond, _&&_}
 use mathlib.Core.List.{List}
-use Prim.Native.Nat.{ℕ, zero, suc, _+_, _*_}
+use Prim.Native.Nat.{ℕ, zero, suc, _+_, _*_, _<_}
 use lib.Dec.{leb, eqb}
 use lib.IntN.{ℤ}
-use lib.ListN.{set, replicate}
+use lib.ListN.{length, set, replicate}
 use Rattle.units.specs.Units.{theParts}
 use Rattle.tables.specs.Sum.{sum}
-use Rattle.tables.specs.Block.{maxTrains, trains, constant, size}
-use Rattle.rows.specs.Added.{choicesOf, added}
+use Rattle.tables.specs.Block.{maxTrains}
+use Rattle.tables.specs.Plans.{Shape, Costs, shapeOf, heldCosts}
+use Rattle.rows.specs.Added.{choicesOf}
 use Rattle.search.specs.declared.walk.Walk.{Walk}
 
 -- ---- totals
 
--- 'The partial total is c0 plus the costs in T among trains decided', the first t trains
-unfoldable pub partialTotal : List ℤ → (ℕ → ℕ) → ℕ → ℕ
-partialTotal b x t = constant b + sum t (λ i. added b x i (x i))
+module _ (s : Shape) (c : Costs) where
+  -- what pair k adds at train t, by the choices x of the trains up to it: its cost where t is its second train, so that each pair counts once, when both its trains are decided
+  abbrev pub pairAdded : (ℕ → ℕ) → ℕ → ℕ → ℕ
+  pairAdded x t k = cond (eqb (s .second k) t) (c .pair k (x (s .first k)) (x (s .second k))) 0
+
+  -- what train t adds to the partial total: its choice's cost, and those of the pairs that are decided with it
+  unfoldable pub added : (ℕ → ℕ) → ℕ → ℕ
+  added x t = c .choice t (x t) + sum (s .pairs) (pairAdded x t)
+
+  -- 'The partial total is c0 plus the costs in T among trains decided', the first t trains
+  unfoldable pub partialTotal : (ℕ → ℕ) → ℕ → ℕ
+  partialTotal x t = c .constant + sum t (added x)
+
+  -- the first t trains are decided: each has one of its choices, and the partial total is theirs
+  pub record Decided (t partial : ℕ) (chosen : List ℕ) : Type 0 where
+    pub whole : length chosen ≡ maxTrains
+    pub below : (i : ℕ) → i < t → choicesOf chosen i < s .size i
+    pub total : partial ≡ partialTotal (choicesOf chosen) t
 
 -- ---- one try
 
@@ -57,18 +74,6 @@ unfoldable pub triedFrom : (ℕ → Walk → Walk) → ℕ → ℕ → Walk → 
 triedFrom one zero a w = w
 triedFrom one (suc k) a w = triedFrom one k (a + 1) (one a w)
 
--- 'trying a choice opens the next train': the try of choice a at train t, given what opening the next train does
-abbrev pub choiceTry : List ℤ → ℕ → (ℕ → List ℕ → Walk → Walk) → ℕ → ℕ → List ℕ → ℕ → Walk → Walk
-choiceTry b budget next t partial chosen a =
-    let total = partial + added b (choicesOf chosen) t a in
-    oneTry budget total (next total (set chosen t a))
-
--- 'Opening a train tries its choices', with `left` trains left from train t on; with none left the plan is whole
-unfoldable pub openedTrain : List ℤ → ℕ → ℕ → ℕ → ℕ → List ℕ → Walk → Walk
-openedTrain b budget zero t partial chosen w = wholePlan partial chosen w
-openedTrain b budget (suc left) t partial chosen w =
-    triedFrom (choiceTry b budget (openedTrain b budget left (t + 1)) t partial chosen) (size b t) 0 w
-
 -- no train decided
 abbrev pub noChoices : List ℕ
 noChoices = replicate maxTrains 0
@@ -77,9 +82,23 @@ noChoices = replicate maxTrains 0
 abbrev pub nothingTried : Walk
 nothingTried = record { count = 0; spent = false; found = false; best = theParts 0; plan = noChoices }
 
--- the whole walk: from c0, over all trains
-unfoldable pub searched : List ℤ → ℕ → Walk
-searched b budget = openedTrain b budget (trains b) 0 (constant b) noChoices nothingTried
+module _ (s : Shape) (c : Costs) (budget : ℕ) where
+  -- 'trying a choice opens the next train': the try of choice a at train t, given what opening the next train does
+  abbrev pub choiceTry : (ℕ → List ℕ → Walk → Walk) → ℕ → ℕ → List ℕ → ℕ → Walk → Walk
+  choiceTry next t partial chosen a =
+      let with = set chosen t a in
+      let total = partial + added s c (choicesOf with) t in
+      oneTry budget total (next total with)
+
+  -- 'Opening a train tries its choices', with `left` trains left from train t on; with none left the plan is whole
+  unfoldable pub openedTrain : ℕ → ℕ → ℕ → List ℕ → Walk → Walk
+  openedTrain zero t partial chosen w = wholePlan partial chosen w
+  openedTrain (suc left) t partial chosen w =
+      triedFrom (choiceTry (openedTrain left (t + 1)) t partial chosen) (s .size t) 0 w
+
+  -- the whole walk: from c0, over all trains
+  unfoldable pub walked : Walk
+  walked = openedTrain (s .trains) 0 (c .constant) noChoices nothingTried
 
 -- ---- how many tries there are
 
@@ -88,9 +107,16 @@ unfoldable pub product : (ℕ → ℕ) → ℕ → ℕ → ℕ
 product f t zero = 1
 product f t (suc k) = f t * product f (t + 1) k
 
--- the tries of a walk over `left` trains from t on, with none dropped: a train's choices are tried once for each plan of the trains before it
-unfoldable pub triesFrom : List ℤ → ℕ → ℕ → ℕ
-triesFrom b left t = sum left (λ i. product (size b) t (i + 1))
+-- the tries of a walk over `left` trains from t on, by their sizes, with none dropped: a train's choices are tried once for each plan of the trains before it
+unfoldable pub triesFrom : (ℕ → ℕ) → ℕ → ℕ → ℕ
+triesFrom f left t = sum left (λ i. product f t (i + 1))
 
-abbrev pub allTries : List ℤ → ℕ
-allTries b = triesFrom b (trains b) 0
+-- those of the whole walk
+abbrev pub allTries : Shape → ℕ
+allTries s = triesFrom (s .size) (s .trains) 0
+
+-- ---- the search of a block
+
+-- a search walks over the shape that the block holds, by T and c0
+unfoldable pub searched : List ℤ → ℕ → Walk
+searched b budget = walked (shapeOf b) (heldCosts b) budget

@@ -23,6 +23,6 @@ unfolding answer lineOf
 long-alike l k b d g h = rw (lt-ltb maxCharacters (length l) g, lt-ltb maxCharacters (length k) h)
 
 -- certificates and searches leave the block, declined or not
-pub certified-leaves : (whole : ℕ) (c : Certificate) (b : List ℤ) → certified whole c b .block ≡ b
-certified-leaves whole Unbalanced b = refl
-certified-leaves whole (Balanced c) b = refl
+pub certified-leaves : (fullWeight : ℕ) (c : Certificate) (b : List ℤ) → certified fullWeight c b .block ≡ b
+certified-leaves fullWeight Unbalanced b = refl
+certified-leaves fullWeight (Balanced c) b = refl

@@ -1,13 +1,12 @@
 -- What a call answers, in the order of the tests: the buffer, the block, the line. No reply is longer than the smallest buffer.
 use mathlib.Core.Path.{_≡_, refl}
-use mathlib.Core.Bool.{Bool, true, false, cond}
-use mathlib.Core.List.{List, []}
+use mathlib.Core.Bool.{true, false}
+use mathlib.Core.List.{List}
 use Prim.Native.Nat.{ℕ, _<_, _≤_}
 use native.Mathlib.Omega.{arith}
-use lib.Dec.{ltb}
 use lib.IntN.{ℤ}
 use lib.ListN.{length}
-use borrow.Author.Tests.{lt-ltb, le-ltb, ltb-false}
+use borrow.Author.Tests.{lt-ltb, le-ltb}
 use Rattle.tables.specs.Block.{trains}
 use Rattle.tables.specs.WellFormed.{wellFormed}
 use Rattle.tables.proofs.Study.{trains-range}
@@ -25,7 +24,6 @@ use Rattle.lines.specs.declared.refusal.Refusal.{Refusal}
 use Rattle.lines.specs.declared.refusal.Refusal.the-variants.{CostAbove, PartsOutside, Sums, Malformed}
 use Rattle.lines.specs.declared.request.Request.{Request}
 use Rattle.lines.specs.declared.request.Request.the-variants.{Load, Add, Shift, Tighten, Certify, Search}
-use Rattle.lines.specs.declared.request.Line.{Line}
 use Rattle.lines.specs.declared.request.Line.the-variants.{Asked, Refused}
 use Rattle.lines.specs.Layout.{moveWidth, weightWidth}
 use Rattle.lines.specs.Numbers.{numbersOf}
@@ -35,9 +33,10 @@ use Rattle.replies.specs.Replies.{refusalReply}
 use Rattle.replies.specs.Wrote.{minBuffer, Wrote}
 use Rattle.replies.proofs.Writing.{wrote-none}
 use Rattle.replies.proofs.ReplyFields.{bound-length, certify-length, search-length, refusal-length}
-use Rattle.service.specs.Answer.{answered, declined, operated, certified, requested, lineAnswer, answer}
+use Rattle.service.specs.Answer.{operated, certified, requested, answer}
 use Rattle.service.specs.Wrote.{Answers, Asks}
 use Rattle.service.proofs.Ready.{search-ready}
+use Rattle.service.proofs.AnswerCases.{answer-cases}
 
 module _ (l : List ℕ) (b : List ℤ) (d : List ℕ) where
   -- 17
@@ -67,9 +66,9 @@ operated-short kind Done old new = omega (arith, bound-length kind new)
 operated-short kind cost-above old new = omega (arith, refusal-length CostAbove)
 operated-short kind parts-outside old new = omega (arith, refusal-length PartsOutside)
 
-certified-short : (whole : ℕ) (c : Certificate) (b : List ℤ) → length (certified whole c b .reply) ≤ minBuffer
-certified-short whole Unbalanced b = omega (arith, refusal-length Sums)
-certified-short whole (Balanced c) b = omega (arith, certify-length whole c)
+certified-short : (fullWeight : ℕ) (c : Certificate) (b : List ℤ) → length (certified fullWeight c b .reply) ≤ minBuffer
+certified-short fullWeight Unbalanced b = omega (arith, refusal-length Sums)
+certified-short fullWeight (Balanced c) b = omega (arith, certify-length fullWeight c)
 
 requested-short : (l : List ℕ) (b : List ℤ) (d : List ℕ) (q : Request) → Asks l b q d → length (requested q l b .reply) ≤ minBuffer
 unfolding requested
@@ -80,17 +79,10 @@ requested-short l b d (Shift q) a =
     let moves = signedRunOf l (q .moves .at) moveWidth (q .moves .count) in
     operated-short 3 (shiftOutcome lifts moves b) b (shiftBlock lifts moves b)
 requested-short l b d Tighten a = operated-short 4 (tightenOutcome b) b (tightenBlock b)
-requested-short l b d (Certify q) a = certified-short (q .whole) (certificate b (weightsOf b (q .whole) (runOf l (q .weights .at) weightWidth (q .weights .count)))) b
+requested-short l b d (Certify q) a = certified-short (q .full) (certificate b (weightsOf b (q .full) (runOf l (q .weights .at) weightWidth (q .weights .count)))) b
 requested-short l b d (Search q) a = omega (arith, search-length (trains b) (searchAnswer b (q .budget)), trains-range (search-ready a .0))
 
 -- every reply fits the smallest buffer
 pub reply-short : (l : List ℕ) (b : List ℤ) (d : List ℕ) → length (answer l b d .reply) ≤ minBuffer
-unfolding answer
-reply-short l b d = go (ltb (length d) minBuffer) (wellFormed b) (lineOf l b) refl refl refl
-  where
-    go : (t u : Bool) (x : Line) → ltb (length d) minBuffer ≡ t → wellFormed b ≡ u → lineOf l b ≡ x
-        → length (cond t (answered b []) (cond u (lineAnswer x l b) (declined b Malformed)) .reply) ≤ minBuffer
-    go true u x e f g = omega arith
-    go false false x e f g = omega (arith, refusal-length Malformed)
-    go false true (Asked q) e f g = requested-short l b d q (record { room = ltb-false (length d) minBuffer e; right = f; asked = g })
-    go false true (Refused r) e f g = omega (arith, refusal-length r)
+reply-short l b d =
+    answer-cases l b d (λ a. length (a .reply) ≤ minBuffer) (λ h. omega arith) (λ e. omega (arith, refusal-length Malformed)) (λ r e. omega (arith, refusal-length r)) (requested-short l b d)

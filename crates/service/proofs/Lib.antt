@@ -2,4 +2,6 @@
 pub mod Answers
 pub mod Outcomes
 pub mod Ready
+pub mod AnswerCases
 pub mod Calls
+pub mod Lists

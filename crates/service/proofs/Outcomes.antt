@@ -13,7 +13,7 @@ use Rattle.operations.specs.declared.outcome.Outcome.{Outcome}
 use Rattle.operations.specs.declared.outcome.Outcome.the-variants.{Done, CostAbove, PartsOutside}
 use Rattle.operations.specs.Add.{addOutcome, addBlock}
 use Rattle.operations.specs.Load.{loadedBlock}
-use Rattle.rewriting.specs.Outcome.{judged, judgedBlock}
+use Rattle.rewriting.specs.Judged.{judged, judgedBlock}
 use Rattle.shift.specs.Shift.{shifted, shiftOutcome, shiftBlock}
 use Rattle.tighten.specs.Tighten.{tightenOutcome, tightenBlock}
 use Rattle.certificates.specs.declared.certify.Certificate.{Certificate}
@@ -54,7 +54,7 @@ operated-answers kind o old new {p} {left} {buffer} {after} {n} e f g w = go o g
 
 -- a certificate, by the weights that were read
 pub certify-answer : (l : List ℕ) (b : List ℤ) (q : Certify) {n : ℕ} {ws : List ℕ} {c : Certificate} → n ≡ q .weights .count → ws ≡ runOf l (q .weights .at) weightWidth n
-    → c ≡ certificate b (weightsOf b (q .whole) ws) → requested (certify-of q) l b ≡ certified (q .whole) c b
+    → c ≡ certificate b (weightsOf b (q .full) ws) → requested (certify-of q) l b ≡ certified (q .full) c b
 unfolding requested
 certify-answer l b q e f g = rw (g, f, e)
 
@@ -91,7 +91,7 @@ tighten-answers l b a = a
 pub certify-answers : (l : List ℕ) (b : List ℤ) (q : Certify) {buffer after : List ℕ} {n : ℕ} → Wrote buffer (requested (certify-of q) l b .reply) after n
     → Answers (requested (certify-of q) l b) buffer b after n
 unfolding requested
-certify-answers l b q w = record { block = sym (certified-leaves (q .whole) (certificate b (weightsOf b (q .whole) (runOf l (q .weights .at) weightWidth (q .weights .count)))) b); reply = w }
+certify-answers l b q w = record { block = sym (certified-leaves (q .full) (certificate b (weightsOf b (q .full) (runOf l (q .weights .at) weightWidth (q .weights .count)))) b); reply = w }
 
 -- and so does a search
 pub search-answers : (l : List ℕ) (b : List ℤ) (q : Search) {buffer after : List ℕ} {n : ℕ} → Wrote buffer (searchReply (trains b) (searchAnswer b (q .budget))) after n

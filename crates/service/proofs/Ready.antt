@@ -17,7 +17,7 @@ use lib.Signed.{mag}
 use Rattle.units.specs.Units.{thePoints, theScale}
 use Rattle.tables.specs.Block.{blockLength, maxTrains, maxChoices, maxPairs, entriesOfPair, trains}
 use Rattle.tables.specs.Numbers.{Numbers, InRange, numbers}
-use Rattle.tables.specs.Ranges.{maxMove, maxWhole, maxBudget}
+use Rattle.tables.specs.Ranges.{maxMove, maxFullWeight, maxBudget}
 use Rattle.tables.specs.WellFormed.{fresh, holdsStudy, wellFormed, Study}
 use Rattle.tables.proofs.Range.{both-true}
 use Rattle.tables.proofs.Study.{study-of, trains-range}
@@ -40,7 +40,7 @@ use Rattle.lines.specs.declared.request.Search.{Search}
 use Rattle.lines.specs.declared.request.Request.{Request}
 use Rattle.lines.specs.declared.request.Request.the-variants.{Load as load-of, Add as add-of, Shift as shift-of, Tighten as tighten-of, Certify as certify-of, Search as search-of}
 use Rattle.lines.specs.declared.request.Verdict.the-variants.{Fine}
-use Rattle.lines.specs.Layout.{costWidth, moveWidth, weightWidth, loadTrains, loadScale, loadSize, sizesAt, choicesAt, choiceCount, pairCountAt, loadPairs, loadFirst, loadSecond, pairAt, addTrain, addChoice, addPoints, liftsAt, movesAt, certifyWhole, weightsAt, searchBudget}
+use Rattle.lines.specs.Layout.{costWidth, moveWidth, weightWidth, loadTrains, loadScale, loadSize, sizesAt, choicesAt, choiceCount, pairCountAt, loadPairs, loadFirst, loadSecond, pairAt, addTrain, addChoice, addPoints, liftsAt, movesAt, certifyFullWeight, weightsAt, searchBudget}
 use Rattle.lines.specs.Numbers.{entriesOf, numbersOf}
 use Rattle.lines.specs.Verdicts.{run, loadVerdict}
 use Rattle.lines.proofs.LoadAccepted.{FineLoad, load-fine, load-sized, load-pair}
@@ -75,7 +75,7 @@ add-ready {l} {b} {q} a =
     rw e (record { study = s; train = add-there s f .0; choice = add-there s f .1; points = f .points })
 
 pub tighten-ready : {l : List ℕ} {b : List ℤ} {buffer : List ℕ} → Asks l b tighten-of buffer → Study b
-tighten-ready {l} {b} a = study-of b (a .right) (makes a .1)
+tighten-ready {l} {b} a = study-of b (a .right) (makes a .2)
 
 pub search-ready : {l : List ℕ} {b : List ℤ} {q : Search} {buffer : List ℕ} → Asks l b (search-of q) buffer → Study b × (q .budget ≤ maxBudget)
 search-ready {l} {b} {q} a =
@@ -87,7 +87,7 @@ search-ready {l} {b} {q} a =
 
 pub record CertifyReady (l : List ℕ) (b : List ℤ) (q : Certify) : Type 0 where
   pub study : Study b
-  pub whole : q .whole ≤ maxWhole
+  pub fullWeight : q .full ≤ maxFullWeight
   pub count : q .weights .count ≤ maxTrains * maxChoices + maxPairs * entriesOfPair
   pub inside : 2 * (q .weights .at + weightWidth * q .weights .count) ≤ length l
   pub weights : WeightsFor b (runOf l (q .weights .at) weightWidth (q .weights .count))
@@ -95,14 +95,14 @@ pub record CertifyReady (l : List ℕ) (b : List ℤ) (q : Certify) : Type 0 whe
 pub certify-ready : {l : List ℕ} {b : List ℤ} {q : Certify} {buffer : List ℕ} → Asks l b (certify-of q) buffer → CertifyReady l b q
 certify-ready {l} {b} {q} a =
     let m = makes a in
-    let e : q ≡ record { whole = certifyWhole l; weights = run weightsAt (weightCount b) } = cc in
+    let e : q ≡ record { full = certifyFullWeight l; weights = run weightsAt (weightCount b) } = cc in
     let s = study-of b (a .right) (m .2) in
     let f = certify-fine l (weightCount b) (m .1) in
     let g : ℕ → ℕ = λ k. field l (weightsAt + weightWidth * k) weightWidth in
     rw e
     (record {
       study = s;
-      whole = f .whole .1;
+      fullWeight = f .fullWeight .1;
       count = omega (arith, held-choices-most s, held-entries-most s);
       inside = omega (arith, f .ends, even a);
       weights =

@@ -50,8 +50,8 @@ operated kind parts-outside old new = declined old PartsOutside
 
 -- 'Certify and search change nothing in the block'; 14 where the sums disagree
 abbrev pub certified : ℕ → Certificate → List ℤ → Answer
-certified whole Unbalanced b = declined b Sums
-certified whole (Balanced c) b = answered b (certifyReply whole c)
+certified fullWeight Unbalanced b = declined b Sums
+certified fullWeight (Balanced c) b = answered b (certifyReply fullWeight c)
 
 -- what each request does, with the long fields read from the line
 unfoldable pub requested : Request → List ℕ → List ℤ → Answer
@@ -62,7 +62,7 @@ requested (Shift q) l b =
     let moves = signedRunOf l (q .moves .at) moveWidth (q .moves .count) in
     operated 3 (shiftOutcome lifts moves b) b (shiftBlock lifts moves b)
 requested Tighten l b = operated 4 (tightenOutcome b) b (tightenBlock b)
-requested (Certify q) l b = certified (q .whole) (certificate b (weightsOf b (q .whole) (runOf l (q .weights .at) weightWidth (q .weights .count)))) b
+requested (Certify q) l b = certified (q .full) (certificate b (weightsOf b (q .full) (runOf l (q .weights .at) weightWidth (q .weights .count)))) b
 requested (Search q) l b = answered b (searchReply (trains b) (searchAnswer b (q .budget)))
 
 abbrev pub lineAnswer : Line → List ℕ → List ℤ → Answer

@@ -100,9 +100,9 @@ fn certify_with(
     ensures { λ r. ⌜ Wrote (now (reply .entry)) (requested (certify-of q) (now (line .entry)) (now (block .entry)) .reply) (now (reply .exit)) r ⌝ }
 {
     runs::decode(line, q.weights.at, Certify::WEIGHT_WIDTH, weights);
-    match certify::certify(block, q.whole, weights) {
+    match certify::certify(block, q.full, weights) {
         Certificate::Unbalanced => write_refusal(reply, Refusal::Sums),
-        Certificate::Balanced(c) => write_certify(reply, q.whole, c),
+        Certificate::Balanced(c) => write_certify(reply, q.full, c),
     }
 }
 

@@ -7,7 +7,7 @@ use Rattle.tables.specs.Block.{at}
 use Rattle.tables.specs.Plans.{IsPlan, shapeOf, heldTotal}
 use Rattle.tables.specs.WellFormed.{Study}
 use Rattle.tables.proofs.Study.{SameShape}
-use Rattle.rewriting.proofs.Shape.{study-figure, study-shapely, study-filled, Moved, moved-shape, allMoves, Any}
+use Rattle.rewriting.proofs.Shape.{study-figure, study-shape-in-range, study-non-empty, Moved, moved-shape, allMoves, Any}
 use Rattle.rewriting.proofs.Totals.{moved-keeps-total}
 use Rattle.rewriting.proofs.Reach.{moved-unmet, Loaded, loaded-unmet}
 use Rattle.rewriting.proofs.Judged.{judged-cases}
@@ -16,13 +16,13 @@ use Rattle.shift.proofs.Rooms.{shift-moved}
 
 module _ {b : List ℤ} (s : Study b) (lifts moves : List ℤ) where
   pub shift-chain : Moved Any b allMoves (shifted lifts moves b)
-  shift-chain = shift-moved (study-shapely s) lifts moves (λ r x i. tt) (λ r x i. tt)
+  shift-chain = shift-moved (study-shape-in-range s) lifts moves (λ r x i. tt) (λ r x i. tt)
 
   pub shift-same-shape : SameShape b (shifted lifts moves b)
-  shift-same-shape = moved-shape (study-shapely s) shift-chain
+  shift-same-shape = moved-shape (study-shape-in-range s) shift-chain
 
   pub shift-loaded : (p : ℕ) → Loaded p → at (shifted lifts moves b) p ≡ at b p
-  shift-loaded p l = moved-unmet (study-filled s) (loaded-unmet (study-shapely s) l) shift-chain
+  shift-loaded p l = moved-unmet (study-non-empty s) (loaded-unmet (study-shape-in-range s) l) shift-chain
 
   pub shift-keeps-total : Study (shifted lifts moves b) → (x : ℕ → ℕ) → IsPlan (shapeOf b) x → heldTotal (shifted lifts moves b) x ≡ heldTotal b x
   shift-keeps-total t x p = moved-keeps-total s shift-chain (λ q. study-figure t q .0) x p

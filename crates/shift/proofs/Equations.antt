@@ -14,20 +14,20 @@ use Rattle.operations.specs.declared.outcome.Outcome.the-variants.{Done, PartsO
 use Rattle.operations.specs.Fold.{iter}
 use Rattle.rewriting.specs.declared.sides.Side.the-variants.{Rows, Columns}
 use Rattle.rewriting.specs.Whole.{sumℤ}
-use Rattle.rewriting.specs.Moves.{Shapely}
+use Rattle.rewriting.specs.Moves.{ShapeInRange}
 use Rattle.rewriting.specs.Ends.{endsOf, SameEnds, Outside, SomeEnd}
-use Rattle.rewriting.proofs.Shape.{study-figure, study-shapely, study-filled, shape-same, same-lines}
+use Rattle.rewriting.proofs.Shape.{study-figure, study-shape-in-range, study-non-empty, shape-same, same-lanes}
 use Rattle.rewriting.proofs.Turns.{pairTurned, trains-shape, trains-constant, trains-choice, trains-high, pairs-constant, pairs-choice, pairs-entry}
 use Rattle.rewriting.proofs.Reach.{Unmet, moved-unmet}
 use Rattle.rewriting.proofs.Judged.{done-unless, judged-outside, judged-ends}
-use Rattle.shift.specs.Shift.{lifted, linesShifted, pairShifted, shifted, shiftOutcome, shiftBlock}
+use Rattle.shift.specs.Shift.{lifted, lanesShifted, pairShifted, shifted, shiftOutcome, shiftBlock}
 use Rattle.shift.specs.Equations.{rowMove, columnMove, movesOf, shiftEnds}
 use Rattle.shift.proofs.Rooms.{same-start, start-within}
 use Rattle.shift.proofs.Ends.{shift-same-shape, shift-chain}
 
 module _ {b : List ℤ} (o : Study b) (lifts moves : List ℤ) where
-  s : Shapely b
-  s = study-shapely o
+  s : ShapeInRange b
+  s = study-shape-in-range o
 
   abbrev lift : ℕ → List ℤ → ℤ
   lift i z = at lifts i
@@ -52,8 +52,8 @@ module _ {b : List ℤ} (o : Study b) (lifts moves : List ℤ) where
   turn-is : (k : ℕ) (z : List ℤ) → k < pairs b → SameShape b z → turn k z ≡ pairTurned k (row k) (column k) z
   unfolding pairShifted
   turn-is k z h u =
-      ap₂ (λ (n l : ℕ). linesShifted Columns moves (n + l) k (linesShifted Rows moves n k z)) (same-start v s k (omega (arith, s .pairs)))
-      (same-lines u s k (omega (arith, s .pairs)) Rows)
+      ap₂ (λ (n l : ℕ). lanesShifted Columns moves (n + l) k (lanesShifted Rows moves n k z)) (same-start v s k (omega (arith, s .pairs)))
+      (same-lanes u s k (omega (arith, s .pairs)) Rows)
 
   shifted-is : shifted lifts moves b ≡ iter (pairs b) turn c
   unfolding shifted
@@ -90,7 +90,7 @@ module _ {b : List ℤ} (o : Study b) (lifts moves : List ℤ) where
         }
 
     unmet : (n : ℕ) → Unmet b n → at (shifted lifts moves b) n ≡ at b n
-    unmet n m = moved-unmet (study-filled o) m (shift-chain o lifts moves)
+    unmet n m = moved-unmet (study-non-empty o) m (shift-chain o lifts moves)
 
     -- 12, 'c0 or an entry would end below 0 or above L': exactly then. Not below 0, of choices and entries, are the two conditions of Theorem 4.2
     pub shift-declined : (shiftOutcome lifts moves b ≡ PartsOutside) ↔ SomeEnd Outside b (shiftEnds u p b)

@@ -13,13 +13,13 @@ use Rattle.tables.specs.Runs.{movesBefore}
 use Rattle.tables.proofs.Sum.{sum-more, sum-cong}
 use Rattle.tables.proofs.Study.{SameShape, same-pairs}
 use Rattle.operations.specs.Fold.{iter}
-use Rattle.rewriting.specs.declared.sides.Run.{Run}
+use Rattle.rewriting.specs.declared.sides.PlaceRun.{PlaceRun}
 use Rattle.rewriting.specs.declared.sides.Side.{Side}
 use Rattle.rewriting.specs.declared.sides.Side.the-variants.{Rows, Columns}
-use Rattle.rewriting.specs.Moves.{Room, Shapely, lineTrain, project, projectUnary}
+use Rattle.rewriting.specs.Moves.{Room, ShapeInRange, laneTrain, project, projectUnary}
 use Rattle.rewriting.proofs.Runs.{room-more, move-room}
-use Rattle.rewriting.proofs.Shape.{same-lines, lines-most, project-fair, fair-run, Asked, Moved, none, move, moved-shape, moved-more, lines-moved, trains-moved, pairs-moved, allMoves}
-use Rattle.shift.specs.Shift.{lifted, linesShifted, pairShifted, pairsShifted, shifted}
+use Rattle.rewriting.proofs.Shape.{same-lanes, lanes-most, project-between-costs, between-costs-run, Asked, Moved, none, move, moved-shape, moved-more, lanes-moved, trains-moved, pairs-moved, allMoves}
+use Rattle.shift.specs.Shift.{lifted, lanesShifted, pairShifted, pairsShifted, shifted}
 
 -- ---- moves of at most 10^12
 
@@ -30,21 +30,21 @@ Small r c α = mag α ≤ maxMove
 abbrev pub perMove : ℕ
 perMove = 2 * maxMove + 3
 
-pub moved-room : {b : List ℤ} → Shapely b → (h : ℕ) → Room b h → {n : ℕ} {c : List ℤ} → Moved Small b n c → Room c (h + n * perMove)
+pub moved-room : {b : List ℤ} → ShapeInRange b → (h : ℕ) → Room b h → {n : ℕ} {c : List ℤ} → Moved Small b n c → Room c (h + n * perMove)
 moved-room s h o {n} none = room-more (h + n * perMove) o (omega arith)
 moved-room s h o (move {m} {n} {run} {c} α l p r w) =
     room-more (h + n * perMove)
-    (move-room run α c (fair-run c (moved-shape s w .whole ∙ s .whole) (project-fair s p)) (h + m * perMove) (moved-room s h o w))
+    (move-room run α c (between-costs-run c (moved-shape s w .whole ∙ s .whole) (project-between-costs s p)) (h + m * perMove) (moved-room s h o w))
     (omega arith)
 
 -- ---- a shift
 
-module _ {R : Asked} {b : List ℤ} (s : Shapely b) where
-  module _ (moves : List ℤ) (r : (run : Run) (x : List ℤ) (i : ℕ) → R run x (at moves i)) where
+module _ {R : Asked} {b : List ℤ} (s : ShapeInRange b) where
+  module _ (moves : List ℤ) (r : (run : PlaceRun) (x : List ℤ) (i : ℕ) → R run x (at moves i)) where
     -- the moves of one side of pair k
-    pub lines-shifted : (side : Side) (start k m n : ℕ) (c : List ℤ) → k < pairs b → m ≤ size b (lineTrain side b k) → Moved R b n c
+    pub lanes-shifted : (side : Side) (start k m n : ℕ) (c : List ℤ) → k < pairs b → m ≤ size b (laneTrain side b k) → Moved R b n c
         → Moved R b (n + m) (iter m (λ x. project side k x (at moves (start + x))) c)
-    lines-shifted side start k m n c h l w = lines-moved s (λ x y. at moves (start + x)) side k h (λ x y e q. r _ y (start + x)) m n c l w
+    lanes-shifted side start k m n c h l w = lanes-moved s (λ x y. at moves (start + x)) side k h (λ x y e q. r _ y (start + x)) m n c l w
 
     pub lifts-moved : (m n : ℕ) (c : List ℤ) → m ≤ trains b → Moved R b n c → Moved R b (n + m) (iter m (λ i. projectUnary i (at moves i)) c)
     lifts-moved m n c l w = trains-moved s (λ i x. at moves i) (λ i x e q. r _ x i) m n c l w
@@ -53,11 +53,11 @@ module _ {R : Asked} {b : List ℤ} (s : Shapely b) where
     unfolding pairShifted
     pair-shifted start k n c h w =
         let g : k < maxPairs = omega (arith, s .pairs) in
-        let e = same-lines (moved-shape s w) s k g Rows in
-        let v = lines-shifted Rows start k (size c (first c k)) n c h (omega arith) w in
-        let f = same-lines (moved-shape s v) s k g Columns in
-        moved-more (omega (arith, lines-most s Rows k h, lines-most s Columns k h))
-        (lines-shifted Columns (start + size c (first c k)) k _ (n + size c (first c k)) (linesShifted Rows moves start k c) h (omega arith) v)
+        let e = same-lanes (moved-shape s w) s k g Rows in
+        let v = lanes-shifted Rows start k (size c (first c k)) n c h (omega arith) w in
+        let f = same-lanes (moved-shape s v) s k g Columns in
+        moved-more (omega (arith, lanes-most s Rows k h, lanes-most s Columns k h))
+        (lanes-shifted Columns (start + size c (first c k)) k _ (n + size c (first c k)) (lanesShifted Rows moves start k c) h (omega arith) v)
 
     pub pairs-shifted : (start : ℕ → ℕ) (m n : ℕ) (c : List ℤ) → m ≤ pairs b → Moved R b n c
         → Moved R b (n + 16 * m) (iter m (λ k. pairShifted moves (start k) k) c)
@@ -65,7 +65,7 @@ module _ {R : Asked} {b : List ℤ} (s : Shapely b) where
 
 -- a pair by its two calls
 pub pair-by : (moves : List ℤ) (start k : ℕ) (b : List ℤ) {n : ℕ} {c d : List ℤ} → n ≡ size b (first b k)
-    → c ≡ linesShifted Rows moves start k b → d ≡ linesShifted Columns moves (start + n) k c → d ≡ pairShifted moves start k b
+    → c ≡ lanesShifted Rows moves start k b → d ≡ lanesShifted Columns moves (start + n) k c → d ≡ pairShifted moves start k b
 unfolding pairShifted
 pair-by moves start k b p q r = r ∙ rw (p, q)
 
@@ -79,19 +79,19 @@ start-within b k m h = let e : m ≡ (k + 1) + (m - (k + 1)) = omega arith in rw
         let e : n + suc d ≡ (n + d) + 1 = omega arith in
         rw e (omega (arith, front n d, sum-more (n + d) (λ l. size b (first b l) + size b (second b l))))
 
-pub same-start : {b c : List ℤ} → SameShape b c → Shapely b → (k : ℕ) → k ≤ maxPairs → movesBefore c k ≡ movesBefore b k
+pub same-start : {b c : List ℤ} → SameShape b c → ShapeInRange b → (k : ℕ) → k ≤ maxPairs → movesBefore c k ≡ movesBefore b k
 same-start {b} {c} e s k h =
     sum-cong k (λ l. size c (first c l) + size c (second c l)) (λ l. size b (first b l) + size b (second b l))
-    (λ l q. omega (arith, same-lines e s l (omega arith) Rows, same-lines e s l (omega arith) Columns))
+    (λ l q. omega (arith, same-lanes e s l (omega arith) Rows, same-lanes e s l (omega arith) Columns))
 
 -- a shift by its calls, of which the first copies the block
 pub shifted-by : (lifts moves b : List ℤ) {t l p : List ℤ} → t ≡ b → l ≡ lifted lifts t → p ≡ pairsShifted moves l → p ≡ shifted lifts moves b
 unfolding shifted
 shifted-by lifts moves b e f g = g ∙ rw (f, e)
 
-pub shift-moved : {R : Asked} {b : List ℤ} → Shapely b → (lifts moves : List ℤ)
-    → ((run : Run) (x : List ℤ) (i : ℕ) → R run x (at lifts i))
-    → ((run : Run) (x : List ℤ) (i : ℕ) → R run x (at moves i))
+pub shift-moved : {R : Asked} {b : List ℤ} → ShapeInRange b → (lifts moves : List ℤ)
+    → ((run : PlaceRun) (x : List ℤ) (i : ℕ) → R run x (at lifts i))
+    → ((run : PlaceRun) (x : List ℤ) (i : ℕ) → R run x (at moves i))
     → Moved R b allMoves (shifted lifts moves b)
 unfolding shifted
 shift-moved {R} {b} s lifts moves q r =

@@ -10,8 +10,8 @@ use Rattle.operations.specs.declared.outcome.Outcome.{Outcome}
 use Rattle.operations.specs.Fold.{iter}
 use Rattle.rewriting.specs.declared.sides.Side.{Side}
 use Rattle.rewriting.specs.declared.sides.Side.the-variants.{Rows, Columns}
-use Rattle.rewriting.specs.Outcome.{judged, judgedBlock}
-use Rattle.rewriting.specs.Moves.{lineTrain, project, projectUnary}
+use Rattle.rewriting.specs.Judged.{judged, judgedBlock}
+use Rattle.rewriting.specs.Moves.{laneTrain, project, projectUnary}
 
 -- 11, 'lift outside 0 to 10^12, move outside ±10^12', is judged before: none is further from 0
 pub record SmallMoves (l : List ℤ) : Type 0 where
@@ -22,12 +22,12 @@ abbrev pub lifted : List ℤ → List ℤ → List ℤ
 lifted lifts b = iter (trains b) (λ i. projectUnary i (at lifts i)) b
 
 -- the moves of one train of pair k, which begin at `start`: p_i,a by row, or p_j,b by column
-abbrev pub linesShifted : Side → List ℤ → ℕ → ℕ → List ℤ → List ℤ
-linesShifted side moves start k b = iter (size b (lineTrain side b k)) (λ x. project side k x (at moves (start + x))) b
+abbrev pub lanesShifted : Side → List ℤ → ℕ → ℕ → List ℤ → List ℤ
+lanesShifted side moves start k b = iter (size b (laneTrain side b k)) (λ x. project side k x (at moves (start + x))) b
 
 -- 'for each pair the moves p_i,a by a, then p_j,b by b'
 unfoldable pub pairShifted : List ℤ → ℕ → ℕ → List ℤ → List ℤ
-pairShifted moves start k b = linesShifted Columns moves (start + size b (first b k)) k (linesShifted Rows moves start k b)
+pairShifted moves start k b = lanesShifted Columns moves (start + size b (first b k)) k (lanesShifted Rows moves start k b)
 
 -- all pairs of the block, whose moves begin where the shape of b says
 abbrev pub pairsShifted : List ℤ → List ℤ → List ℤ

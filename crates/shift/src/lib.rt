@@ -5,11 +5,11 @@ ghost use lib.ListN.{length};
 ghost use Rattle.tables.specs.Block.{maxParts, trains, pairs, size, first, second};
 ghost use Rattle.tables.specs.WellFormed.{Study};
 ghost use Rattle.tables.specs.Runs.{movesBefore};
-ghost use Rattle.rewriting.specs.Moves.{Room, Shapely, lineTrain};
-ghost use Rattle.shift.specs.Shift.{SmallMoves, lifted, linesShifted, pairShifted, pairsShifted, shiftOutcome, shiftBlock};
+ghost use Rattle.rewriting.specs.Moves.{Room, ShapeInRange, laneTrain};
+ghost use Rattle.shift.specs.Shift.{SmallMoves, lifted, lanesShifted, pairShifted, pairsShifted, shiftOutcome, shiftBlock};
 use operations::outcome::Outcome;
+use rewriting::judging;
 use rewriting::moves;
-use rewriting::outcome;
 use rewriting::sides;
 use rewriting::sides::Side;
 use tables::block;
@@ -23,15 +23,15 @@ pub fn shift(block: &mut [i64], lifts: &[i64], moves: &[i64]) -> Outcome
     ensures { λ r. ⌜ now (block .exit) ≡ shiftBlock (now (lifts .entry)) (now (moves .entry)) (now (block .entry)) ⌝ }
 {
     let mut end = [0i64; Block::LENGTH];
-    outcome::copy(&mut end, block);
+    judging::copy(&mut end, block);
     lift_trains(&mut end, lifts);
     shift_pairs(&mut end, moves);
-    outcome::settle(block, &end)
+    judging::settle(block, &end)
 }
 
 // Lifts u_i from the choices of each train to the constant.
 fn lift_trains(b: &mut [i64], lifts: &[i64])
-    requires { ⌜ (Shapely (now b)) × (Room (now b) maxParts) × (length (now lifts) ≡ trains (now b)) × (SmallMoves (now lifts)) ⌝ }
+    requires { ⌜ (ShapeInRange (now b)) × (Room (now b) maxParts) × (length (now lifts) ≡ trains (now b)) × (SmallMoves (now lifts)) ⌝ }
     ensures { λ _. ⌜ now (b .exit) ≡ lifted (now (lifts .entry)) (now (b .entry)) ⌝ }
 {
     let n = block::trains(b);
@@ -44,7 +44,7 @@ fn lift_trains(b: &mut [i64], lifts: &[i64])
 
 // Makes the moves of every pair.
 fn shift_pairs(b: &mut [i64], moves: &[i64])
-    requires { ⌜ (Shapely (now b)) × (Room (now b) (2 ^ 48)) × (length (now moves) ≡ movesBefore (now b) (pairs (now b))) × (SmallMoves (now moves)) ⌝ }
+    requires { ⌜ (ShapeInRange (now b)) × (Room (now b) (2 ^ 48)) × (length (now moves) ≡ movesBefore (now b) (pairs (now b))) × (SmallMoves (now moves)) ⌝ }
     ensures { λ _. ⌜ now (b .exit) ≡ pairsShifted (now (moves .entry)) (now (b .entry)) ⌝ }
 {
     let m = block::pairs(b);
@@ -58,24 +58,24 @@ fn shift_pairs(b: &mut [i64], moves: &[i64])
 
 // Makes the moves of pair k, which begin at `start`. The result is where those of the next pair begin.
 fn shift_pair(b: &mut [i64], moves: &[i64], start: usize, k: usize) -> usize
-    requires { ⌜ (Shapely (now b)) × (Room (now b) (2 ^ 52)) × (k < pairs (now b)) × (SmallMoves (now moves)) ⌝ }
+    requires { ⌜ (ShapeInRange (now b)) × (Room (now b) (2 ^ 52)) × (k < pairs (now b)) × (SmallMoves (now moves)) ⌝ }
     requires { ⌜ start + size (now b) (first (now b) k) + size (now b) (second (now b) k) ≤ length (now moves) ⌝ }
     ensures { λ r. ⌜ (r ≡ start + (size (now (b .entry)) (first (now (b .entry)) k) + size (now (b .entry)) (second (now (b .entry)) k))) × (now (b .exit) ≡ pairShifted (now (moves .entry)) start k (now (b .entry))) ⌝ }
 {
-    let rows = sides::lines(b, k, Side::Rows);
-    let columns = sides::lines(b, k, Side::Columns);
-    shift_lines(b, moves, start, k, Side::Rows);
-    shift_lines(b, moves, start + rows, k, Side::Columns);
+    let rows = sides::lanes(b, k, Side::Rows);
+    let columns = sides::lanes(b, k, Side::Columns);
+    shift_lanes(b, moves, start, k, Side::Rows);
+    shift_lanes(b, moves, start + rows, k, Side::Columns);
     start + (rows + columns)
 }
 
 // Moves p_i,a from each row a of pair k to choice a of its first train, or p_j,b from each column b to choice b of its second.
-fn shift_lines(b: &mut [i64], moves: &[i64], start: usize, k: usize, side: Side)
-    requires { ⌜ (Shapely (now b)) × (Room (now b) (2 ^ 53)) × (k < pairs (now b)) × (SmallMoves (now moves)) ⌝ }
-    requires { ⌜ start + size (now b) (lineTrain side (now b) k) ≤ length (now moves) ⌝ }
-    ensures { λ _. ⌜ now (b .exit) ≡ linesShifted side (now (moves .entry)) start k (now (b .entry)) ⌝ }
+fn shift_lanes(b: &mut [i64], moves: &[i64], start: usize, k: usize, side: Side)
+    requires { ⌜ (ShapeInRange (now b)) × (Room (now b) (2 ^ 53)) × (k < pairs (now b)) × (SmallMoves (now moves)) ⌝ }
+    requires { ⌜ start + size (now b) (laneTrain side (now b) k) ≤ length (now moves) ⌝ }
+    ensures { λ _. ⌜ now (b .exit) ≡ lanesShifted side (now (moves .entry)) start k (now (b .entry)) ⌝ }
 {
-    let n = sides::lines(b, k, side);
+    let n = sides::lanes(b, k, side);
     let mut x = 0;
     while x < n {
         moves::project(b, k, side, x, moves[start + x]);

@@ -13,11 +13,9 @@ use borrow.Author.Tests.{ltb-true, ltb-false, ne-eqb}
 use Rattle.tables.specs.WellFormed.{freshBlock}
 use Rattle.frames.specs.Frames.{maxCharacters}
 use Rattle.service.specs.Answer.{answered}
+use Rattle.service.specs.Calls.{exchanges}
 use Rattle.service.proofs.Answers.{long-alike}
-use Rattle.claims.specs.Claims.{Demand}
-use Rattle.claims.specs.Ledger.{entries}
-use Rattle.claims.proofs.Demand.{demand}
-use Rattle.stream.specs.Session.{lineFeed, noLine, lineCall, lineCalls, linesFrom, inputLines, replyLines, printedFrom, printed}
+use Rattle.stream.specs.Session.{lineFeed, noLine, lineCall, lineCalls, linesFrom, replyLines, printedFrom, printed}
 use Rattle.stream.specs.Parts.{lineLength, keptMost, lengthened, answerLine, Shown, steps, overPart, start, overMore, overParts, lastAnswer, byParts}
 use Rattle.stream.proofs.Steps.{next-open, next-ended}
 
@@ -91,14 +89,14 @@ printed-on front b part rest h = rw (lines-go-on rest part front h)
 printed-line : (front : List ℕ) (b : List ℤ) (part rest : List ℕ) → lineLength part < length part
     → printedFrom front b (part ++ rest)
     ≡ answerLine (front ++ take (lineLength part) part) b .reply ++ printedFrom [] (answerLine (front ++ take (lineLength part) part) b .block) (drop (suc (lineLength part)) part ++ rest)
-unfolding printedFrom answerLine replyLines entries
+unfolding printedFrom answerLine replyLines exchanges
 printed-line front b part rest h = rw (lines-end rest part front h)
 
 printed-last : (front : List ℕ) (b : List ℤ) → printedFrom front b [] ≡ lastAnswer front b .reply
-unfolding printedFrom linesFrom replyLines entries answerLine lastAnswer
+unfolding printedFrom linesFrom replyLines exchanges answerLine lastAnswer
 printed-last front b = go (noLine front)
   where
-    go : (t : Bool) → replyLines (entries b (lineCalls (cond t [] (front ∷ [])))) ≡ cond t (answered b []) (answerLine front b) .reply
+    go : (t : Bool) → replyLines (exchanges b (lineCalls (cond t [] (front ∷ [])))) ≡ cond t (answered b []) (answerLine front b) .reply
     go true = refl
     go false = append-nil _
 
@@ -177,7 +175,3 @@ printed-by-parts parts =
     ∙ ap (λ x. s .shown ++ x) (kept-last (o .left) (s .block) ∙ sym (printed-last (o .left) (s .block)))
     ∙ sym (o .prints [])
     ∙ ap printed (append-nil (flatten parts))
-
--- demand 3, of the lines of every input
-pub input-demand : (input : List ℕ) → Demand (lineCalls (inputLines input))
-input-demand input = demand (lineCalls (inputLines input))

@@ -8,7 +8,7 @@ use lib.IntN.{ℤ}
 use lib.ListN.{length, replicate}
 use Rattle.tables.specs.WellFormed.{freshBlock}
 use Rattle.replies.specs.Wrote.{minBuffer}
-use Rattle.claims.specs.Ledger.{Call, Entry, entries}
+use Rattle.service.specs.Calls.{Call, Exchange, exchanges}
 
 -- 'line end': a line feed
 abbrev pub lineFeed : ℕ
@@ -43,14 +43,14 @@ abbrev pub lineCalls : List (List ℕ) → List Call
 lineCalls ls = map lineCall ls
 
 -- 'prints a reply line for each input line'
-unfoldable pub replyLines : List Entry → List ℕ
+unfoldable pub replyLines : List Exchange → List ℕ
 replyLines [] = []
 replyLines (e ∷ es) = (e .reply ++ lineFeed ∷ []) ++ replyLines es
 
 -- all that is printed on an input that begins behind `front`, from block b on
 unfoldable pub printedFrom : List ℕ → List ℤ → List ℕ → List ℕ
-printedFrom front b input = replyLines (entries b (lineCalls (linesFrom front input)))
+printedFrom front b input = replyLines (exchanges b (lineCalls (linesFrom front input)))
 
--- 'starts fresh': all that is printed on an input. What demand 3 claims of lists of calls it claims of these.
+-- 'starts fresh': all that is printed on an input
 abbrev pub printed : List ℕ → List ℕ
 printed input = printedFrom [] freshBlock input

@@ -29,13 +29,13 @@ nth l i = getD l i 0
 abbrev pub choiceStart : List ℕ → ℕ → ℕ
 choiceStart sizes i = sum i (nth sizes)
 
--- how many rows and columns pair k has
-abbrev pub rowsOf : List ℕ → List ℕ → ℕ → ℕ
-rowsOf sizes firsts k = nth sizes (nth firsts k)
+-- how many lanes pair k has: rows, by the first trains, and columns, by the second
+abbrev pub lanesOf : List ℕ → List ℕ → ℕ → ℕ
+lanesOf sizes trains k = nth sizes (nth trains k)
 
 -- where the costs of pair k begin
 abbrev pub entryStart : List ℕ → List ℕ → List ℕ → ℕ → ℕ
-entryStart sizes firsts seconds k = sum k (λ j. rowsOf sizes firsts j * rowsOf sizes seconds j)
+entryStart sizes firsts seconds k = sum k (λ j. lanesOf sizes firsts j * lanesOf sizes seconds j)
 
 -- the numbers are as many as the sizes say, and within the ranges of document 01
 pub record InRange (l : Numbers) : Type 0 where

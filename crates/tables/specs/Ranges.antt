@@ -6,8 +6,8 @@ abbrev pub maxMove : ℕ
 maxMove = 1000000000000
 
 -- 'W outside 1 to 100,000'
-abbrev pub maxWhole : ℕ
-maxWhole = 100000
+abbrev pub maxFullWeight : ℕ
+maxFullWeight = 100000
 
 -- 'budget outside 1 to 10,000,000'
 abbrev pub maxBudget : ℕ

@@ -10,27 +10,27 @@ use Rattle.tables.specs.Plans.{IsPlan, shapeOf, heldTotal}
 use Rattle.tables.specs.WellFormed.{holdsStudy, Study}
 use Rattle.tables.proofs.Study.{study-holds, SameShape, same-trains, same-size}
 use Rattle.operations.specs.Fold.{iter}
-use Rattle.rewriting.specs.Moves.{Shapely}
-use Rattle.rewriting.proofs.Shape.{study-shapely, study-filled, study-natural, study-room, shapely-kept, filled-kept, Moved, none, moved-shape, moved-map, moved-more, moved-then, allMoves, Any}
+use Rattle.rewriting.specs.Moves.{ShapeInRange}
+use Rattle.rewriting.proofs.Shape.{study-shape-in-range, study-non-empty, study-non-negative, study-room, shape-in-range-kept, non-empty-kept, Moved, none, moved-shape, moved-map, moved-more, moved-then, allMoves, Any}
 use Rattle.rewriting.proofs.Totals.{moved-keeps-total}
 use Rattle.rewriting.proofs.Reach.{moved-unmet, Loaded, loaded-unmet, reach-study}
 use Rattle.rewriting.proofs.Judged.{judged-cases}
 use Rattle.tighten.specs.Tighten.{pairTightened, trainTightened, pairsTightened, tightened, tightenBlock}
-use Rattle.tighten.proofs.Falls.{Falling, falling-room, falling-natural, falling-pairs, falling-trains, Tight, moved-falling, moved-raises, Zero, zero-as, trains-zero, pairs-tightened, trains-tightened}
+use Rattle.tighten.proofs.Falls.{Falling, falling-room, falling-non-negative, falling-pairs, falling-trains, Tight, moved-falling, moved-raises, Zero, zero-as, trains-zero, pairs-tightened, trains-tightened}
 
 module _ {b : List ℤ} (s : Study b) where
   pairs-chain : Moved (Tight heldEntriesFrom) b (0 + 16 * pairs b) (pairsTightened b)
-  pairs-chain = pairs-tightened (study-shapely s) (pairs b) 0 b (omega arith) none
+  pairs-chain = pairs-tightened (study-shape-in-range s) (pairs b) 0 b (omega arith) none
 
   abbrev pairs-falling : Falling heldEntriesFrom maxParts (maxParts + (0 + 16 * pairs b) * maxParts) (pairsTightened b)
-  pairs-falling = moved-falling (study-shapely s) (falling-pairs (study-natural s) (study-room s)) pairs-chain
+  pairs-falling = moved-falling (study-shape-in-range s) (falling-pairs (study-non-negative s) (study-room s)) pairs-chain
 
   -- no number falls below 0 in the pairs' turns
   pub pairs-natural : (m : ℕ) → m ≤ pairs b → (p : ℕ) → at (iter m pairTightened b) p ≡ pos (figure (iter m pairTightened b) p)
-  pairs-natural m h = moved-falling (study-shapely s) (falling-pairs (study-natural s) (study-room s)) (pairs-tightened (study-shapely s) m 0 b h none) .natural
+  pairs-natural m h = moved-falling (study-shape-in-range s) (falling-pairs (study-non-negative s) (study-room s)) (pairs-tightened (study-shape-in-range s) m 0 b h none) .natural
 
-  between : Shapely (pairsTightened b)
-  between = shapely-kept (moved-shape (study-shapely s) pairs-chain) (study-shapely s)
+  between : ShapeInRange (pairsTightened b)
+  between = shape-in-range-kept (moved-shape (study-shape-in-range s) pairs-chain) (study-shape-in-range s)
 
   trains-chain : (m : ℕ) → m ≤ trains (pairsTightened b) → Moved (Tight heldChoicesFrom) (pairsTightened b) (0 + m) (iter m trainTightened (pairsTightened b))
   trains-chain m h = trains-tightened between m 0 (pairsTightened b) h none
@@ -38,25 +38,25 @@ module _ {b : List ℤ} (s : Study b) where
   pub tighten-chain : Moved Any b allMoves (tightened b)
   unfolding tightened
   tighten-chain =
-      moved-more (omega (arith, study-shapely s .pairs, between .trains))
-      (moved-then (study-shapely s) (moved-map (λ run c α r. tt) pairs-chain) (moved-map (λ run c α r. tt) (trains-chain (trains (pairsTightened b)) (omega arith))))
+      moved-more (omega (arith, study-shape-in-range s .pairs, between .trains))
+      (moved-then (study-shape-in-range s) (moved-map (λ run c α r. tt) pairs-chain) (moved-map (λ run c α r. tt) (trains-chain (trains (pairsTightened b)) (omega arith))))
 
   -- the most that a number is after the pairs
   abbrev pairs-most : ℕ
   pairs-most = maxParts + (0 + 16 * pairs b) * maxParts
 
   start-falling : Falling heldChoicesFrom pairs-most pairs-most (pairsTightened b)
-  start-falling = falling-trains (falling-natural pairs-falling) (falling-room pairs-falling)
+  start-falling = falling-trains (falling-non-negative pairs-falling) (falling-room pairs-falling)
 
   trains-falling : (m : ℕ) → m ≤ trains (pairsTightened b)
       → Falling heldChoicesFrom pairs-most (pairs-most + (0 + m) * pairs-most) (iter m trainTightened (pairsTightened b))
   trains-falling m h = moved-falling between start-falling (trains-chain m h)
 
   pub tighten-same-shape : SameShape b (tightened b)
-  tighten-same-shape = moved-shape (study-shapely s) tighten-chain
+  tighten-same-shape = moved-shape (study-shape-in-range s) tighten-chain
 
   pub tighten-loaded : (p : ℕ) → Loaded p → at (tightened b) p ≡ at b p
-  tighten-loaded p l = moved-unmet (study-filled s) (loaded-unmet (study-shapely s) l) tighten-chain
+  tighten-loaded p l = moved-unmet (study-non-empty s) (loaded-unmet (study-shape-in-range s) l) tighten-chain
 
   -- no number falls below 0
   pub tighten-natural : (p : ℕ) → at (tightened b) p ≡ pos (figure (tightened b) p)
@@ -71,7 +71,7 @@ module _ {b : List ℤ} (s : Study b) where
   tighten-raises-constant =
       omega (
         arith,
-        moved-raises {source = heldEntriesFrom} (omega arith) (study-shapely s) (falling-pairs (study-natural s) (study-room s)) pairs-chain,
+        moved-raises {source = heldEntriesFrom} (omega arith) (study-shape-in-range s) (falling-pairs (study-non-negative s) (study-room s)) pairs-chain,
         moved-raises {source = heldChoicesFrom} (omega arith) between start-falling (trains-chain (trains (pairsTightened b)) (omega arith)),
       )
 
@@ -87,13 +87,13 @@ module _ {b : List ℤ} (s : Study b) where
   pub tighten-leaves-zero : (i : ℕ) → i < trains b → Zero b (tightened b) i
   unfolding tightened
   tighten-leaves-zero i h =
-      let e = moved-shape (study-shapely s) pairs-chain in
-      zero-as (same-size e i (omega (arith, study-shapely s .trains)))
-      (trains-zero between (filled-kept e (study-shapely s) (study-filled s)) start-falling (trains (pairsTightened b)) (omega arith) i (omega (arith, same-trains e)))
+      let e = moved-shape (study-shape-in-range s) pairs-chain in
+      zero-as (same-size e i (omega (arith, study-shape-in-range s .trains)))
+      (trains-zero between (non-empty-kept e (study-shape-in-range s) (study-non-empty s)) start-falling (trains (pairsTightened b)) (omega arith) i (omega (arith, same-trains e)))
 
   -- where no plan's total is above L, nothing is declined
   pub tighten-within : ((x : ℕ → ℕ) → IsPlan (shapeOf b) x → heldTotal b x ≤ maxParts) → holdsStudy (tightened b) ≡ true
   tighten-within low =
       study-holds
-      (reach-study s (tightened b) tighten-same-shape tighten-natural (λ p u. moved-unmet (study-filled s) u tighten-chain)
+      (reach-study s (tightened b) tighten-same-shape tighten-natural (λ p u. moved-unmet (study-non-empty s) u tighten-chain)
       (λ x p. rw (tighten-keeps-total x p) (low x p)))

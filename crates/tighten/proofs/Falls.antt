@@ -14,34 +14,34 @@ use Rattle.tables.specs.Block.{blockLength, maxTrains, maxPairs, maxParts, held
 use Rattle.tables.proofs.Study.{SameShape, same-figure, same-trains, same-size, figure-at}
 use Rattle.operations.specs.Fold.{iter}
 use Rattle.operations.proofs.Fold.{iter-ind, least-le, least-is}
-use Rattle.rewriting.specs.declared.sides.Run.{Run}
+use Rattle.rewriting.specs.declared.sides.PlaceRun.{PlaceRun}
 use Rattle.rewriting.specs.declared.sides.Side.{Side}
 use Rattle.rewriting.specs.declared.sides.Side.the-variants.{Rows, Columns}
-use Rattle.rewriting.specs.Moves.{Room, Shapely, runPlace, moveRun, lineTrain, lineRun, choicesRun, Natural, Filled}
+use Rattle.rewriting.specs.Moves.{Room, ShapeInRange, runPlace, moveRun, laneTrain, laneRun, choicesRun, NonNegative, NonEmpty}
 use Rattle.rewriting.proofs.Runs.{Met, Missed, meet, move-to, move-met, move-other}
-use Rattle.rewriting.proofs.Shape.{shapely-kept, filled-kept, unary, same-line, same-lines, line-train, lines-most, nat-room, Fair, project-fair, fair-run, Moved, none, move, moved-as, moved-shape, moved-more, moved-unary, lines-moved, trains-moved, pairs-moved}
-use Rattle.tighten.specs.Tighten.{runLeast, runTightened, lineTightened, linesTightened, trainTightened, pairTightened, pairsTightened, trainsTightened, tightened}
+use Rattle.rewriting.proofs.Shape.{shape-in-range-kept, non-empty-kept, unary, same-lane, same-lanes, lane-train, lanes-most, nat-room, BetweenCosts, project-between-costs, between-costs-run, Moved, none, move, moved-as, moved-shape, moved-more, moved-unary, lanes-moved, trains-moved, pairs-moved}
+use Rattle.tighten.specs.Tighten.{runLeast, runTightened, laneTightened, lanesTightened, trainTightened, pairTightened, pairsTightened, trainsTightened, tightened}
 
 less : (a l : ℕ) → l ≤ a → pos a +ℤ negℤ (pos l) ≡ pos (a - l)
 less a zero h = rw (add-zero, sub-zero)
 less a (suc l) h = rw (le-ltb a (suc l) h)
 
 -- the least of a run is at most each of its numbers
-pub run-least-le : (r : Run) (p : ℕ) (c : List ℤ) → Met r p → runLeast r c ≤ figure c p
+pub run-least-le : (r : PlaceRun) (p : ℕ) (c : List ℤ) → Met r p → runLeast r c ≤ figure c p
 unfolding runLeast
 run-least-le r p c m = omega (arith, least-le (r .count - 1) (m .turn) (λ i. figure c (runPlace r i)) (omega (arith, m .below)), ap (figure c) (m .is))
 
-pub record Attained (r : Run) (c : List ℤ) : Type 0 where
+pub record Attained (r : PlaceRun) (c : List ℤ) : Type 0 where
   pub turn : ℕ
   pub below : turn < r .count
   pub is : runLeast r c ≡ figure c (runPlace r turn)
 
-pub run-least-first : (r : Run) (c : List ℤ) → runLeast r c ≤ figure c (runPlace r 0)
+pub run-least-first : (r : PlaceRun) (c : List ℤ) → runLeast r c ≤ figure c (runPlace r 0)
 unfolding runLeast
 run-least-first r c = least-le (r .count - 1) 0 (λ i. figure c (runPlace r i)) (omega arith)
 
 -- and one of them
-pub run-least-met : (r : Run) (c : List ℤ) → 0 < r .count → Attained r c
+pub run-least-met : (r : PlaceRun) (c : List ℤ) → 0 < r .count → Attained r c
 unfolding runLeast
 run-least-met r c h =
     let m = least-is (r .count - 1) (λ i. figure c (runPlace r i)) in
@@ -51,22 +51,22 @@ nat-mag : (z : ℤ) → nat z ≤ mag z
 nat-mag (pos n) = omega arith
 nat-mag (negsuc n) = omega arith
 
-pub run-least-room : (r : Run) (c : List ℤ) (h : ℕ) → Room c h → runLeast r c ≤ h
+pub run-least-room : (r : PlaceRun) (c : List ℤ) (h : ℕ) → Room c h → runLeast r c ≤ h
 unfolding figure
 run-least-room r c h o = omega (arith, run-least-first r c, nat-mag (at c (runPlace r 0)), o .room (runPlace r 0))
 
 -- ---- what one tightening leaves at each place
 
-module _ {r : Run} (f : Fair r) (c : List ℤ) (len : length c ≡ blockLength) (natural : (p : ℕ) → at c p ≡ pos (figure c p)) where
+module _ {r : PlaceRun} (f : BetweenCosts r) (c : List ℤ) (len : length c ≡ blockLength) (natural : (p : ℕ) → at c p ≡ pos (figure c p)) where
   pub tight-met : (p : ℕ) → Met r p → at (runTightened r c) p ≡ pos (figure c p - runLeast r c)
   unfolding runTightened
   tight-met p m =
       let l = runLeast r c in
-      move-met r (pos l) c (fair-run c len f) (f .missed) p m ∙ ap (λ (z : ℤ). z +ℤ negℤ (pos l)) (natural p) ∙ less (figure c p) l (run-least-le r p c m)
+      move-met r (pos l) c (between-costs-run c len f) (f .missed) p m ∙ ap (λ (z : ℤ). z +ℤ negℤ (pos l)) (natural p) ∙ less (figure c p) l (run-least-le r p c m)
 
   pub tight-to : at (runTightened r c) (r .to) ≡ pos (figure c (r .to) + runLeast r c)
   unfolding runTightened
-  tight-to = let l = runLeast r c in move-to r (pos l) c (fair-run c len f) (f .missed) (r .to) refl ∙ ap (λ (z : ℤ). z +ℤ pos l) (natural (r .to))
+  tight-to = let l = runLeast r c in move-to r (pos l) c (between-costs-run c len f) (f .missed) (r .to) refl ∙ ap (λ (z : ℤ). z +ℤ pos l) (natural (r .to))
 
   pub tight-other : (p : ℕ) → p ≢ r .to → Missed r p → at (runTightened r c) p ≡ at c p
   unfolding runTightened
@@ -95,10 +95,10 @@ pub record Falling (source high room : ℕ) (c : List ℤ) : Type 0 where
 pub falling-room : {source high room : ℕ} {c : List ℤ} → Falling source high room c → Room c room
 falling-room {c = c} f = record { room = λ p. omega (arith, nat-room (at c p) (figure c p) (f .natural p), f .most p) }
 
-pub falling-natural : {room : ℕ} {c : List ℤ} → Falling heldEntriesFrom maxParts room c → Natural c
-falling-natural f = record { natural = f .natural; entries = f .sources }
+pub falling-non-negative : {room : ℕ} {c : List ℤ} → Falling heldEntriesFrom maxParts room c → NonNegative c
+falling-non-negative f = record { natural = f .natural; entries = f .sources }
 
-module _ {b : List ℤ} (n : Natural b) {h : ℕ} (o : Room b h) where
+module _ {b : List ℤ} (n : NonNegative b) {h : ℕ} (o : Room b h) where
   figure-room : (p : ℕ) → figure b p ≤ h
   figure-room p = omega (arith, nat-room (at b p) (figure b p) (n .natural p), o .room p)
 
@@ -109,7 +109,7 @@ module _ {b : List ℤ} (n : Natural b) {h : ℕ} (o : Room b h) where
   pub falling-trains : Falling heldChoicesFrom h h b
   falling-trains = record { natural = n .natural; sources = λ p l. figure-room p; most = figure-room }
 
-pub falling-step : {source high room : ℕ} {r : Run} {c : List ℤ} → Fair r → length c ≡ blockLength → source ≤ r .from → r .to < source
+pub falling-step : {source high room : ℕ} {r : PlaceRun} {c : List ℤ} → BetweenCosts r → length c ≡ blockLength → source ≤ r .from → r .to < source
     → Falling source high room c → Falling source high (room + high) (runTightened r c)
 unfolding figure
 falling-step {source} {high} {room} {r} {c} f len below above o =
@@ -126,25 +126,25 @@ falling-more : {source high room more : ℕ} {c : List ℤ} → room ≤ more �
 falling-more h f = record { natural = f .natural; sources = f .sources; most = λ p. omega (arith, f .most p) }
 
 -- the moves of a tightening
-pub record Tight (source : ℕ) (r : Run) (c : List ℤ) (α : ℤ) : Type 0 where
+pub record Tight (source : ℕ) (r : PlaceRun) (c : List ℤ) (α : ℤ) : Type 0 where
   pub is : α ≡ pos (runLeast r c)
   pub below : source ≤ r .from
   pub above : r .to < source
 
-pub tight-is : (r : Run) (c : List ℤ) → moveRun r (pos (runLeast r c)) c ≡ runTightened r c
+pub tight-is : (r : PlaceRun) (c : List ℤ) → moveRun r (pos (runLeast r c)) c ≡ runTightened r c
 unfolding runTightened
 tight-is r c = refl
 
-pub moved-falling : {source high room : ℕ} {b : List ℤ} → Shapely b → Falling source high room b → {n : ℕ} {c : List ℤ} → Moved (Tight source) b n c
+pub moved-falling : {source high room : ℕ} {b : List ℤ} → ShapeInRange b → Falling source high room b → {n : ℕ} {c : List ℤ} → Moved (Tight source) b n c
     → Falling source high (room + n * high) c
 moved-falling {source} {high} {room} s o {n} none = falling-more (omega arith) o
 moved-falling {source} {high} {room} s o {n} (move {m} {run = run} {c} α l p r w) =
     let e : length c ≡ blockLength = moved-shape s w .whole ∙ s .whole in
     rw (r .is, tight-is run c)
-    (falling-more (omega (arith, suc-mul m high, mul-le-mul-right high l)) (falling-step (project-fair s p) e (r .below) (r .above) (moved-falling s o w)))
+    (falling-more (omega (arith, suc-mul m high, mul-le-mul-right high l)) (falling-step (project-between-costs s p) e (r .below) (r .above) (moved-falling s o w)))
 
 -- the constant only grows: no run holds it
-pub moved-raises : {source high room : ℕ} {b : List ℤ} → heldChoicesFrom ≤ source → Shapely b → Falling source high room b
+pub moved-raises : {source high room : ℕ} {b : List ℤ} → heldChoicesFrom ≤ source → ShapeInRange b → Falling source high room b
     → {n : ℕ} {c : List ℤ} → Moved (Tight source) b n c → figure b constantPlace ≤ figure c constantPlace
 unfolding figure
 moved-raises h s o none = omega arith
@@ -152,24 +152,24 @@ moved-raises {b = b} h s o (move {run = run} {c} α l p r w) =
     let e : length c ≡ blockLength = moved-shape s w .whole ∙ s .whole in
     let g = moved-raises h s o w in
     rw (r .is, tight-is run c)
-    (tight-cases (project-fair s p) c e (moved-falling s o w .natural) (λ z. figure b constantPlace ≤ nat z) constantPlace
+    (tight-cases (project-between-costs s p) c e (moved-falling s o w .natural) (λ z. figure b constantPlace ≤ nat z) constantPlace
     (λ m. absurd (omega (arith, r .below, m .is))) (λ q. rw (← q) (omega arith)) g)
 
 -- ---- the folds of a tightening
 
-module _ {b : List ℤ} (s : Shapely b) where
-  -- a line goes from entries to a choice
-  line-bounds : (side : Side) (k x : ℕ) → k < pairs b → x < size b (lineTrain side b k)
-      → (heldEntriesFrom ≤ lineRun side b k x .from) × (lineRun side b k x .to < heldEntriesFrom)
-  line-bounds Rows k x h q = (omega arith, omega (arith, line-train s Rows k h, lines-most s Rows k h))
-  line-bounds Columns k x h q = (omega arith, omega (arith, line-train s Columns k h, lines-most s Columns k h))
+module _ {b : List ℤ} (s : ShapeInRange b) where
+  -- a lane goes from entries to a choice
+  lane-bounds : (side : Side) (k x : ℕ) → k < pairs b → x < size b (laneTrain side b k)
+      → (heldEntriesFrom ≤ laneRun side b k x .from) × (laneRun side b k x .to < heldEntriesFrom)
+  lane-bounds Rows k x h q = (omega arith, omega (arith, lane-train s Rows k h, lanes-most s Rows k h))
+  lane-bounds Columns k x h q = (omega arith, omega (arith, lane-train s Columns k h, lanes-most s Columns k h))
 
-  pub lines-tightened : (side : Side) (k m n : ℕ) (c : List ℤ) → k < pairs b → m ≤ size b (lineTrain side b k) → Moved (Tight heldEntriesFrom) b n c
-      → Moved (Tight heldEntriesFrom) b (n + m) (iter m (lineTightened side k) c)
+  pub lanes-tightened : (side : Side) (k m n : ℕ) (c : List ℤ) → k < pairs b → m ≤ size b (laneTrain side b k) → Moved (Tight heldEntriesFrom) b n c
+      → Moved (Tight heldEntriesFrom) b (n + m) (iter m (laneTightened side k) c)
   unfolding runTightened
-  lines-tightened side k m n c h l w =
-      lines-moved s (λ x y. pos (runLeast (lineRun side y k x) y)) side k h
-      (λ x y e q. let d = line-bounds side k x h q in record { is = rw (same-line e s k (omega (arith, s .pairs)) side x); below = d .0; above = d .1 })
+  lanes-tightened side k m n c h l w =
+      lanes-moved s (λ x y. pos (runLeast (laneRun side y k x) y)) side k h
+      (λ x y e q. let d = lane-bounds side k x h q in record { is = rw (same-lane e s k (omega (arith, s .pairs)) side x); below = d .0; above = d .1 })
       m n c l w
 
   pub trains-tightened : (m n : ℕ) (c : List ℤ) → m ≤ trains b → Moved (Tight heldChoicesFrom) b n c
@@ -184,11 +184,11 @@ module _ {b : List ℤ} (s : Shapely b) where
   unfolding pairTightened
   pair-tightened k n c h w =
       let g : k < maxPairs = omega (arith, s .pairs) in
-      let e = same-lines (moved-shape s w) s k g Rows in
-      let v = lines-tightened Rows k (size c (first c k)) n c h (omega arith) w in
-      let f = same-lines (moved-shape s v) s k g Columns in
-      moved-more (omega (arith, lines-most s Rows k h, lines-most s Columns k h))
-      (lines-tightened Columns k _ (n + size c (first c k)) (linesTightened Rows k c) h (omega arith) v)
+      let e = same-lanes (moved-shape s w) s k g Rows in
+      let v = lanes-tightened Rows k (size c (first c k)) n c h (omega arith) w in
+      let f = same-lanes (moved-shape s v) s k g Columns in
+      moved-more (omega (arith, lanes-most s Rows k h, lanes-most s Columns k h))
+      (lanes-tightened Columns k _ (n + size c (first c k)) (lanesTightened Rows k c) h (omega arith) v)
 
   pub pairs-tightened : (m n : ℕ) (c : List ℤ) → m ≤ pairs b → Moved (Tight heldEntriesFrom) b n c
       → Moved (Tight heldEntriesFrom) b (n + 16 * m) (iter m pairTightened c)
@@ -206,10 +206,10 @@ pub zero-as : {b d c : List ℤ} {i : ℕ} → size d i ≡ size b i → Zero d 
 zero-as e z = record { which = z .which; below = rw e at (z .below); is = z .is }
 
 -- the train whose turn it is gets one, and the others keep theirs
-train-zero : {c : List ℤ} → Shapely c → Filled c → ((p : ℕ) → at c p ≡ pos (figure c p)) → (i : ℕ) → i < trains c
+train-zero : {c : List ℤ} → ShapeInRange c → NonEmpty c → ((p : ℕ) → at c p ≡ pos (figure c p)) → (i : ℕ) → i < trains c
     → Zero c (trainTightened i c) i × ((j : ℕ) → j < trains c → j ≢ i → Zero c c j → Zero c (trainTightened i c) j)
 train-zero {c} s o natural i h =
-    let f = project-fair s (unary i h) in
+    let f = project-between-costs s (unary i h) in
     let d = s .sizes i (omega (arith, s .trains)) in
     let m = run-least-met (choicesRun c i) c (o .sizes i h) in
     let p : heldChoicePlace i (m .turn) ≡ heldChoicePlace i 0 + 1 * m .turn = omega arith in
@@ -228,7 +228,7 @@ train-zero {c} s o natural i h =
       },
     )
 
-pub trains-zero : {b : List ℤ} {high room : ℕ} → Shapely b → Filled b → Falling heldChoicesFrom high room b
+pub trains-zero : {b : List ℤ} {high room : ℕ} → ShapeInRange b → NonEmpty b → Falling heldChoicesFrom high room b
     → (m : ℕ) → m ≤ trains b → (i : ℕ) → i < m → Zero b (iter m trainTightened b) i
 trains-zero {b} s o f m h = iter-ind So m trainTightened b (none, λ i l. absurd (omega arith)) turn .1
   where
@@ -239,7 +239,7 @@ trains-zero {b} s o f m h = iter-ind So m trainTightened b (none, λ i l. absurd
     turn n x l (w, z) =
         let e = moved-shape s w in
         let c : n < maxTrains = omega (arith, s .trains) in
-        let t = train-zero (shapely-kept e s) (filled-kept e s o) (moved-falling s f w .natural) n (omega (arith, same-trains e)) in
+        let t = train-zero (shape-in-range-kept e s) (non-empty-kept e s o) (moved-falling s f w .natural) n (omega (arith, same-trains e)) in
         let r : Tight heldChoicesFrom (choicesRun b n) x (pos (runLeast (choicesRun x n) x)) =
         record { is = rw (same-size e n c); below = omega arith; above = omega arith } in
         (moved-as (sym (tight-is _ x)) (moved-unary s w (n + 1) n _ (omega arith) (omega arith) r), zeros e c t)
@@ -252,7 +252,7 @@ trains-zero {b} s o f m h = iter-ind So m trainTightened b (none, λ i l. absurd
             (λ r. let d = same-size e i (omega arith) in zero-as d (t .1 i (omega (arith, same-trains e)) r (zero-as (sym d) (z i (omega arith)))))
 
 -- a pair, and the whole, by their calls
-pub pair-tight-by : (k : ℕ) (b : List ℤ) {c d : List ℤ} → c ≡ linesTightened Rows k b → d ≡ linesTightened Columns k c → d ≡ pairTightened k b
+pub pair-tight-by : (k : ℕ) (b : List ℤ) {c d : List ℤ} → c ≡ lanesTightened Rows k b → d ≡ lanesTightened Columns k c → d ≡ pairTightened k b
 unfolding pairTightened
 pair-tight-by k b p q = q ∙ rw p
 

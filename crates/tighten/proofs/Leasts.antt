@@ -16,14 +16,14 @@ use Rattle.tables.specs.WellFormed.{Study}
 use Rattle.tables.proofs.Study.{SameShape, same-pairs, same-first, same-second, same-figure, first-below-second}
 use Rattle.operations.specs.declared.outcome.Outcome.the-variants.{Done, PartsOutside}
 use Rattle.operations.specs.Fold.{iter, least}
-use Rattle.rewriting.specs.declared.sides.Run.{Run}
+use Rattle.rewriting.specs.declared.sides.PlaceRun.{PlaceRun}
 use Rattle.rewriting.specs.declared.sides.Side.{Side}
 use Rattle.rewriting.specs.declared.sides.Side.the-variants.{Rows, Columns}
 use Rattle.rewriting.specs.Whole.{ofPair}
-use Rattle.rewriting.specs.Moves.{Shapely, Filled, runPlace, lineTrain, lineRun, choicesRun}
+use Rattle.rewriting.specs.Moves.{ShapeInRange, NonEmpty, runPlace, laneTrain, laneRun, choicesRun}
 use Rattle.rewriting.specs.Ends.{endsOf, SameEnds, Above, SomeEnd}
-use Rattle.rewriting.proofs.Shape.{study-figure, study-shapely, study-filled, shape-same, shapely-kept, filled-kept, line-filled}
-use Rattle.rewriting.proofs.Steps.{acrossTrain, linePlace, line-same, choices-same}
+use Rattle.rewriting.proofs.Shape.{study-figure, study-shape-in-range, study-non-empty, shape-same, shape-in-range-kept, non-empty-kept, lane-non-empty}
+use Rattle.rewriting.proofs.Steps.{acrossTrain, lanePlace, lane-same, choices-same}
 use Rattle.rewriting.proofs.Totals.{sumℤ-pos}
 use Rattle.rewriting.proofs.Turns.{of-map, RowSent, ColumnSent, pairTurned, trainsTurned, pair-constant, pair-choice, pair-entry, pair-entry-other, pairs-shape, pairs-constant, pairs-choice, pairs-entry, trains-constant, trains-choice, trains-high}
 use Rattle.rewriting.proofs.Reach.{Unmet, moved-unmet}
@@ -40,7 +40,7 @@ least-cong zero f g h = h 0 (omega arith)
 least-cong (suc n) f g h = ap₂ min (least-cong n f g (λ i l. h i (omega arith))) (h (suc n) (omega arith))
 
 -- the least of a run, by its figures
-run-least-is : (r : Run) (c : List ℤ) (f : ℕ → ℕ) → 0 < r .count → ((i : ℕ) → i < r .count → figure c (runPlace r i) ≡ f i) → runLeast r c ≡ least (r .count - 1) f
+run-least-is : (r : PlaceRun) (c : List ℤ) (f : ℕ → ℕ) → 0 < r .count → ((i : ℕ) → i < r .count → figure c (runPlace r i) ≡ f i) → runLeast r c ≡ least (r .count - 1) f
 unfolding runLeast
 run-least-is r c f h e = least-cong (r .count - 1) (λ i. figure c (runPlace r i)) f (λ i l. e i (omega arith))
 
@@ -56,10 +56,10 @@ nat-less m (suc n) = go (ltb m (suc n)) refl
 -- ---- what goes in each turn
 
 abbrev fromRow : ℕ → ℕ → List ℤ → ℤ
-fromRow k a z = pos (runLeast (lineRun Rows z k a) z)
+fromRow k a z = pos (runLeast (laneRun Rows z k a) z)
 
 abbrev fromColumn : ℕ → ℕ → List ℤ → ℤ
-fromColumn k d z = pos (runLeast (lineRun Columns z k d) z)
+fromColumn k d z = pos (runLeast (laneRun Columns z k d) z)
 
 abbrev fromTrain : ℕ → List ℤ → ℤ
 fromTrain i z = pos (runLeast (choicesRun z i) z)
@@ -72,31 +72,31 @@ trains-is : (x : List ℤ) → trainsTightened x ≡ trainsTurned fromTrain x
 unfolding runTightened
 trains-is x = refl
 
--- b has a fair shape; x has that shape, and no number below 0
-module _ {b : List ℤ} (s : Shapely b) (o : Filled b) where
-  line-least : (side : Side) (k y : ℕ) → k < pairs b → y < size b (lineTrain side b k) → (z : List ℤ) → SameShape b z → (f : ℕ → ℕ)
-      → ((w : ℕ) → w < size b (acrossTrain side b k) → figure z (linePlace side k y w) ≡ f w) → runLeast (lineRun side z k y) z ≡ least (size b (acrossTrain side b k) - 1) f
-  line-least side k y h q z u f e = ap (λ (r : Run). runLeast r z) (line-same s z u side k y h q) ∙ by side e
+-- b's shape is in range; x has that shape, and no number below 0
+module _ {b : List ℤ} (s : ShapeInRange b) (o : NonEmpty b) where
+  lane-least : (side : Side) (k y : ℕ) → k < pairs b → y < size b (laneTrain side b k) → (z : List ℤ) → SameShape b z → (f : ℕ → ℕ)
+      → ((w : ℕ) → w < size b (acrossTrain side b k) → figure z (lanePlace side k y w) ≡ f w) → runLeast (laneRun side z k y) z ≡ least (size b (acrossTrain side b k) - 1) f
+  lane-least side k y h q z u f e = ap (λ (r : PlaceRun). runLeast r z) (lane-same s z u side k y h q) ∙ by side e
     where
-      by : (t : Side) → ((w : ℕ) → w < size b (acrossTrain t b k) → figure z (linePlace t k y w) ≡ f w) → runLeast (lineRun t b k y) z ≡ least (size b (acrossTrain t b k) - 1) f
-      by Rows e = run-least-is (lineRun Rows b k y) z f (line-filled o Rows k y h) (λ i l. let p : runPlace (lineRun Rows b k y) i ≡ heldEntryPlace k y i = omega arith in ap (figure z) p ∙ e i l)
+      by : (t : Side) → ((w : ℕ) → w < size b (acrossTrain t b k) → figure z (lanePlace t k y w) ≡ f w) → runLeast (laneRun t b k y) z ≡ least (size b (acrossTrain t b k) - 1) f
+      by Rows e = run-least-is (laneRun Rows b k y) z f (lane-non-empty o Rows k y h) (λ i l. let p : runPlace (laneRun Rows b k y) i ≡ heldEntryPlace k y i = omega arith in ap (figure z) p ∙ e i l)
       by Columns e =
-          run-least-is (lineRun Columns b k y) z f (line-filled o Columns k y h) (λ i l. let p : runPlace (lineRun Columns b k y) i ≡ heldEntryPlace k i y = omega arith in ap (figure z) p ∙ e i l)
+          run-least-is (laneRun Columns b k y) z f (lane-non-empty o Columns k y h) (λ i l. let p : runPlace (laneRun Columns b k y) i ≡ heldEntryPlace k i y = omega arith in ap (figure z) p ∙ e i l)
 
   train-least : (i : ℕ) → i < trains b → (z : List ℤ) → SameShape b z → (f : ℕ → ℕ) → ((a : ℕ) → a < size b i → figure z (heldChoicePlace i a) ≡ f a)
       → runLeast (choicesRun z i) z ≡ least (size b i - 1) f
   train-least i h z u f e =
-      ap (λ (r : Run). runLeast r z) (choices-same s z u i h)
+      ap (λ (r : PlaceRun). runLeast r z) (choices-same s z u i h)
       ∙ run-least-is (choicesRun b i) z f (o .sizes i h) (λ a l. let p : runPlace (choicesRun b i) a ≡ heldChoicePlace i a = omega arith in ap (figure z) p ∙ e a l)
 
   module _ (natural : (p : ℕ) → at b p ≡ pos (figure b p)) where
     row-sent : (k : ℕ) → k < pairs b → RowSent b b k (fromRow k) (λ a. pos (rowLeast b k a))
-    row-sent k h a q z u e = ap pos (line-least Rows k a h q z u (λ d. heldEntry b k a d) (λ d w. same-figure b z (heldEntryPlace k a d) (e d w)))
+    row-sent k h a q z u e = ap pos (lane-least Rows k a h q z u (λ d. heldEntry b k a d) (λ d w. same-figure b z (heldEntryPlace k a d) (e d w)))
 
     column-sent : (k : ℕ) → k < pairs b → ColumnSent b b k (λ a. pos (rowLeast b k a)) (fromColumn k) (λ d. pos (restLeast b k d))
     unfolding figure
     column-sent k h d w z u e =
-        ap pos (line-least Columns k d h w z u (λ a. heldEntry b k a d - rowLeast b k a)
+        ap pos (lane-least Columns k d h w z u (λ a. heldEntry b k a d - rowLeast b k a)
         (λ a q. ap nat (e a q ∙ ap (λ (y : ℤ). y -ℤ pos (rowLeast b k a)) (natural (heldEntryPlace k a d))) ∙ nat-less (heldEntry b k a d) (rowLeast b k a)))
 
     -- after the turn of a pair
@@ -150,8 +150,8 @@ module _ {b : List ℤ} (s : Shapely b) (o : Filled b) where
 -- ---- a study
 
 module _ {b : List ℤ} (o : Study b) where
-  s : Shapely b
-  s = study-shapely o
+  s : ShapeInRange b
+  s = study-shape-in-range o
 
   natural : (p : ℕ) → at b p ≡ pos (figure b p)
   natural p = study-figure o p .0
@@ -165,7 +165,7 @@ module _ {b : List ℤ} (o : Study b) where
   tighten-pair k h =
       let u = after-shape k (omega arith) in
       let g : k < maxPairs = omega (arith, s .pairs) in
-      pair-ends (shapely-kept u s) (filled-kept u s (study-filled o)) (pairs-natural o k (omega arith)) k (omega (arith, same-pairs u))
+      pair-ends (shape-in-range-kept u s) (non-empty-kept u s (study-non-empty o)) (pairs-natural o k (omega arith)) k (omega (arith, same-pairs u))
       (omega (arith, first-below-second o k h, same-first u k g, same-second u k g))
 
   -- 'After all pairs, by train': the trains' turn, on what the pairs left
@@ -175,22 +175,22 @@ module _ {b : List ℤ} (o : Study b) where
       let c = pairsTightened b in
       let u = after-shape (pairs b) (omega arith) in
       let n = pairs-natural o (pairs b) (omega arith) in
-      trains-left (shapely-kept u s) (filled-kept u s (study-filled o)) c (shape-same c) (heldChoice c) (λ k a d. pos (heldEntry c k a d))
+      trains-left (shape-in-range-kept u s) (non-empty-kept u s (study-non-empty o)) c (shape-same c) (heldChoice c) (λ k a d. pos (heldEntry c k a d))
       (record { constant = n constantPlace; choice = λ i a h q. n (heldChoicePlace i a); entry = λ k a d h q r. n (heldEntryPlace k a d) })
 
   -- the end, by the study as it was, before it is judged
   pub tightened-ends : SameEnds b (endsOf (tightened b)) (tightenEnds b)
   unfolding tightened
   tightened-ends =
-      trains-left s (study-filled o) (pairsTightened b) (after-shape (pairs b) (omega arith)) (λ i a. heldChoice b i a + sum (pairs b) (gain b i a)) (entryLeft b)
+      trains-left s (study-non-empty o) (pairsTightened b) (after-shape (pairs b) (omega arith)) (λ i a. heldChoice b i a + sum (pairs b) (gain b i a)) (entryLeft b)
       (record {
         constant = pairs-constant s (first-below-second o) fromRow fromColumn pairTightened (λ k z h u. pair-is k z) b (shape-same b) ∙ natural constantPlace;
         choice = λ i a h q.
-            pairs-choice s (first-below-second o) fromRow fromColumn pairTightened (λ k z g u. pair-is k z) b (shape-same b) row rest (row-sent s (study-filled o) natural) (column-sent s (study-filled o) natural) i a h q
+            pairs-choice s (first-below-second o) fromRow fromColumn pairTightened (λ k z g u. pair-is k z) b (shape-same b) row rest (row-sent s (study-non-empty o) natural) (column-sent s (study-non-empty o) natural) i a h q
             ∙ ap₂ _+ℤ_ (natural (heldChoicePlace i a))
             (sumℤ-pos (pairs b) (λ k. ofPair b k i (row k a) (rest k a) (pos 0)) (gain b i a) (λ k g. of-map b k i (rowLeast b k a) (restLeast b k a) 0 pos));
         entry = λ k a d h q r.
-            pairs-entry s (first-below-second o) fromRow fromColumn pairTightened (λ l z g u. pair-is l z) b (shape-same b) row rest (row-sent s (study-filled o) natural) (column-sent s (study-filled o) natural) k a d h q r
+            pairs-entry s (first-below-second o) fromRow fromColumn pairTightened (λ l z g u. pair-is l z) b (shape-same b) row rest (row-sent s (study-non-empty o) natural) (column-sent s (study-non-empty o) natural) k a d h q r
             ∙ ap (λ (z : ℤ). (z -ℤ row k a) -ℤ rest k d) (natural (heldEntryPlace k a d));
       })
     where
@@ -201,7 +201,7 @@ module _ {b : List ℤ} (o : Study b) where
       rest k d = pos (restLeast b k d)
 
   unmet : (p : ℕ) → Unmet b p → at (tightened b) p ≡ at b p
-  unmet p m = moved-unmet (study-filled o) m (tighten-chain o)
+  unmet p m = moved-unmet (study-non-empty o) m (tighten-chain o)
 
   -- 12, 'c0 or an entry would end below 0 or above L'. Of tighten no end is below 0: 'above L' alone is the case, and exactly then
   pub tighten-declined : (tightenOutcome b ≡ PartsOutside) ↔ SomeEnd Above b (tightenEnds b)

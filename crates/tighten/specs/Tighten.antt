@@ -5,31 +5,31 @@ use lib.IntN.{ℤ, pos}
 use Rattle.tables.specs.Block.{figure, trains, pairs, size}
 use Rattle.operations.specs.declared.outcome.Outcome.{Outcome}
 use Rattle.operations.specs.Fold.{iter, least}
-use Rattle.rewriting.specs.declared.sides.Run.{Run}
+use Rattle.rewriting.specs.declared.sides.PlaceRun.{PlaceRun}
 use Rattle.rewriting.specs.declared.sides.Side.{Side}
 use Rattle.rewriting.specs.declared.sides.Side.the-variants.{Rows, Columns}
-use Rattle.rewriting.specs.Outcome.{judged, judgedBlock}
-use Rattle.rewriting.specs.Moves.{runPlace, moveRun, lineTrain, lineRun, choicesRun}
+use Rattle.rewriting.specs.Judged.{judged, judgedBlock}
+use Rattle.rewriting.specs.Moves.{runPlace, moveRun, laneTrain, laneRun, choicesRun}
 
 -- the least figure of a run
-unfoldable pub runLeast : Run → List ℤ → ℕ
+unfoldable pub runLeast : PlaceRun → List ℤ → ℕ
 runLeast r b = least (r .count - 1) (λ i. figure b (runPlace r i))
 
 -- the least of a run goes from each of its places to where its costs go
-unfoldable pub runTightened : Run → List ℤ → List ℤ
+unfoldable pub runTightened : PlaceRun → List ℤ → List ℤ
 runTightened r b = moveRun r (pos (runLeast r b)) b
 
--- the least of line x of pair k goes to choice x of the side's train
-abbrev pub lineTightened : Side → ℕ → ℕ → List ℤ → List ℤ
-lineTightened side k x b = runTightened (lineRun side b k x) b
+-- the least of lane x of pair k goes to choice x of the side's train
+abbrev pub laneTightened : Side → ℕ → ℕ → List ℤ → List ℤ
+laneTightened side k x b = runTightened (laneRun side b k x) b
 
--- each line of a side, ascending
-abbrev pub linesTightened : Side → ℕ → List ℤ → List ℤ
-linesTightened side k b = iter (size b (lineTrain side b k)) (lineTightened side k) b
+-- each lane of a side, ascending
+abbrev pub lanesTightened : Side → ℕ → List ℤ → List ℤ
+lanesTightened side k b = iter (size b (laneTrain side b k)) (laneTightened side k) b
 
 -- 'for each a ascending, the least c_ij(a,b) over b moves from that row to c_i(a). Then for each b ascending the least over a moves to c_j(b)'
 unfoldable pub pairTightened : ℕ → List ℤ → List ℤ
-pairTightened k b = linesTightened Columns k (linesTightened Rows k b)
+pairTightened k b = lanesTightened Columns k (lanesTightened Rows k b)
 
 -- 'For each pair in order'
 abbrev pub pairsTightened : List ℤ → List ℤ

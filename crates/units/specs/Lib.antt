@@ -1,1 +1,2 @@
+-- The rule, and nothing besides.
 pub mod Units

@@ -11,7 +11,7 @@ use Rattle.operations.specs.Fold.{iter}
 use Rattle.operations.proofs.Fold.{iter-zero, iter-turn}
 use Rattle.rewriting.specs.Moves.{projectUnary}
 use Rattle.rewriting.proofs.Runs.{room-more}
-use Rattle.rewriting.proofs.Shape.{Moved, none, moved-as, moved-shape, shapely-kept}
+use Rattle.rewriting.proofs.Shape.{Moved, none, moved-as, moved-shape, shape-in-range-kept}
 use Rattle.shift.proofs.Rooms.{Small, moved-room, lifts-moved}
 use Rattle.shift.proofs.lift_trains.Statement.{statement}
 use Rattle.shift.proofs.lift_trains.Tie as tie
@@ -46,7 +46,7 @@ project-unary-requires c κs =
     let s = l .before .before .before in
     let w = chain l in
     let e = moved-shape (s .pre .0) w in (
-      shapely-kept e (s .pre .0),
+      shape-in-range-kept e (s .pre .0),
       room-more (2 ^ 59) (moved-room (s .pre .0) maxParts (s .pre .1) w) (omega (arith, l .before .trains .ensures, s .pre .0 .trains)),
       omega (arith, l .before .trains .ensures, same-trains e),
       rw (toZ-ofZ (sfits-of (c .project-unary-arg2 .given))) (omega (arith, s .pre .3 .small (l .loop .i))),

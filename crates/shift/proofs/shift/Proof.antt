@@ -6,9 +6,9 @@ use native.Mathlib.Omega.{arith}
 use Rattle.tables.specs.Block.{maxParts, trains}
 use Rattle.tables.specs.Runs.{movesBefore}
 use Rattle.tables.proofs.Study.{same-pairs}
-use Rattle.rewriting.specs.Outcome.{judged, judgedBlock}
+use Rattle.rewriting.specs.Judged.{judged, judgedBlock}
 use Rattle.rewriting.proofs.Runs.{room-more}
-use Rattle.rewriting.proofs.Shape.{Moved, none, moved-as, moved-shape, shapely-kept, study-shapely, study-room}
+use Rattle.rewriting.proofs.Shape.{Moved, none, moved-as, moved-shape, shape-in-range-kept, study-shape-in-range, study-room}
 use Rattle.shift.proofs.Rooms.{Small, moved-room, lifts-moved, same-start, shifted-by}
 use Rattle.shift.proofs.shift.Statement.{statement}
 use Rattle.shift.proofs.shift.Tie as tie
@@ -25,7 +25,7 @@ slice-aggregate-lift-trains c = search needs
 lift-trains-requires : tie.Need-lift-trains-requires
 lift-trains-requires c κs =
     let s = c .before .before .before .before .before in
-    rw (c .before .before .copy .ensures) (study-shapely (s .pre .0 .0), study-room (s .pre .0 .0), s .pre .0 .1, s .pre .1 .0)
+    rw (c .before .before .copy .ensures) (study-shape-in-range (s .pre .0 .0), study-room (s .pre .0 .0), s .pre .0 .1, s .pre .1 .0)
 
 slice-aggregate-shift-pairs : tie.Need-slice-aggregate-shift-pairs
 slice-aggregate-shift-pairs c = search needs
@@ -35,12 +35,12 @@ shift-pairs-requires c κs =
     let l = c .before .before in
     let s = l .before .before .before .before .before .before in
     let b = s .args .block .now in
-    let h = study-shapely (s .pre .0 .0) in
+    let h = study-shape-in-range (s .pre .0 .0) in
     let w : Moved Small b (0 + trains b) (l .lift-trains .last .0) =
     moved-as (rw (l .before .before .before .copy .ensures) at (l .lift-trains .ensures))
     (lifts-moved h (s .args .lifts .now) (λ r x i. s .pre .1 .0 .small i) (trains b) 0 b (omega arith) none) in
     let e = moved-shape h w in (
-      shapely-kept e h,
+      shape-in-range-kept e h,
       room-more (2 ^ 48) (moved-room h maxParts (study-room (s .pre .0 .0)) w) (omega (arith, h .trains)),
       s .pre .0 .2 ∙ sym (ap (movesBefore _) (same-pairs e) ∙ same-start e h _ (h .pairs)),
       s .pre .1 .1,

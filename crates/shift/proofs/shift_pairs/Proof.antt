@@ -12,7 +12,7 @@ use Rattle.operations.specs.Fold.{iter}
 use Rattle.operations.proofs.Fold.{iter-zero, iter-turn}
 use Rattle.rewriting.specs.declared.sides.Side.the-variants.{Rows, Columns}
 use Rattle.rewriting.proofs.Runs.{room-more}
-use Rattle.rewriting.proofs.Shape.{Moved, none, moved-as, moved-shape, shapely-kept, same-lines}
+use Rattle.rewriting.proofs.Shape.{Moved, none, moved-as, moved-shape, shape-in-range-kept, same-lanes}
 use Rattle.shift.specs.Shift.{pairShifted}
 use Rattle.shift.proofs.Rooms.{Small, moved-room, pairs-shifted, start-within}
 use Rattle.shift.proofs.shift_pairs.Statement.{statement}
@@ -45,12 +45,12 @@ shift-pair-requires c κs =
     let w = chain l in
     let e = moved-shape h w in
     let g : l .loop .k < pairs (s .args .b .now) = omega (arith, l .before .pairs .ensures) in (
-      (shapely-kept e h, room-more (2 ^ 52) (moved-room h (2 ^ 48) (s .pre .1) w) (omega (arith, h .pairs)), omega (arith, same-pairs e), s .pre .3),
+      (shape-in-range-kept e h, room-more (2 ^ 52) (moved-room h (2 ^ 48) (s .pre .1) w) (omega (arith, h .pairs)), omega (arith, same-pairs e), s .pre .3),
       omega (
         arith,
         start-within (s .args .b .now) (l .loop .k) (pairs (s .args .b .now)) g,
-        same-lines e h (l .loop .k) (omega (arith, h .pairs)) Rows,
-        same-lines e h (l .loop .k) (omega (arith, h .pairs)) Columns,
+        same-lanes e h (l .loop .k) (omega (arith, h .pairs)) Rows,
+        same-lanes e h (l .loop .k) (omega (arith, h .pairs)) Columns,
       ),
     )
 
@@ -75,8 +75,8 @@ loop-again c =
         arith,
         r .shift-pair .ensures .0,
         sum-more (l .loop .k) (λ k. size (a .b .now) (first (a .b .now) k) + size (a .b .now) (second (a .b .now) k)),
-        same-lines e h (l .loop .k) g Rows,
-        same-lines e h (l .loop .k) g Columns,
+        same-lanes e h (l .loop .k) g Rows,
+        same-lanes e h (l .loop .k) g Columns,
       ),
       iter-turn (λ k. pairShifted (a .moves .now) (movesBefore (a .b .now) k) k) (a .b .now) (l .loop .inv .3)
           (rw (l .loop .inv .2) at (r .shift-pair .ensures .1)),

@@ -8,7 +8,7 @@ use native.Mathlib.Omega.{arith}
 use Rattle.tables.specs.Block.{figure}
 use Rattle.operations.specs.Fold.{least as leastOf}
 use Rattle.operations.proofs.Fold.{least-zero, least-more}
-use Rattle.rewriting.specs.declared.sides.Run.{Run}
+use Rattle.rewriting.specs.declared.sides.PlaceRun.{PlaceRun}
 use Rattle.rewriting.specs.Moves.{runPlace}
 use Rattle.tighten.specs.Tighten.{runLeast}
 use Rattle.tighten.proofs.run_least.Statement.{statement}
@@ -20,7 +20,7 @@ Inv-loop b run least₀ i₀ least i = (i < run .count) × (least .0 ≡ leastOf
 abbrev μ-loop : tie.MeasureT-loop
 μ-loop b run least₀ i₀ least i = run .count - i
 
-first : (r : Run) → runPlace r 0 ≡ r .from
+first : (r : PlaceRun) → runPlace r 0 ≡ r .from
 first r = rw (mul-zero, add-zero)
 
 parts-requires : tie.Need-parts-requires Inv-loop μ-loop

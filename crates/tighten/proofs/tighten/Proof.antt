@@ -4,10 +4,10 @@ use mathlib.Core.Path.{ap, _∙_}
 use Prim.Native.Nat.{_+_, _*_, _^_}
 use native.Mathlib.Omega.{arith}
 use Rattle.tables.specs.Block.{heldEntriesFrom, pairs}
-use Rattle.rewriting.specs.Outcome.{judged, judgedBlock}
+use Rattle.rewriting.specs.Judged.{judged, judgedBlock}
 use Rattle.rewriting.proofs.Runs.{room-more}
-use Rattle.rewriting.proofs.Shape.{Moved, none, moved-as, moved-shape, shapely-kept, filled-kept, study-shapely, study-filled, study-natural, study-room}
-use Rattle.tighten.proofs.Falls.{Tight, falling-room, falling-natural, falling-pairs, moved-falling, pairs-tightened, tightened-by}
+use Rattle.rewriting.proofs.Shape.{Moved, none, moved-as, moved-shape, shape-in-range-kept, non-empty-kept, study-shape-in-range, study-non-empty, study-non-negative, study-room}
+use Rattle.tighten.proofs.Falls.{Tight, falling-room, falling-non-negative, falling-pairs, moved-falling, pairs-tightened, tightened-by}
 use Rattle.tighten.proofs.tighten.Statement.{statement}
 use Rattle.tighten.proofs.tighten.Tie as tie
 
@@ -23,7 +23,7 @@ slice-aggregate-tighten-pairs c = search needs
 tighten-pairs-requires : tie.Need-tighten-pairs-requires
 tighten-pairs-requires c κs =
     let s = c .before .before .before .before .before in
-    rw (c .before .before .copy .ensures) (study-shapely (s .pre), study-filled (s .pre), study-natural (s .pre), study-room (s .pre))
+    rw (c .before .before .copy .ensures) (study-shape-in-range (s .pre), study-non-empty (s .pre), study-non-negative (s .pre), study-room (s .pre))
 
 slice-aggregate-tighten-trains : tie.Need-slice-aggregate-tighten-trains
 slice-aggregate-tighten-trains c = search needs
@@ -33,12 +33,12 @@ tighten-trains-requires c κs =
     let p = c .before .before in
     let s = p .before .before .before .before .before .before in
     let b = s .args .block .now in
-    let h = study-shapely (s .pre) in
+    let h = study-shape-in-range (s .pre) in
     let w : Moved (Tight heldEntriesFrom) b (0 + 16 * pairs b) (p .tighten-pairs .last .0) =
     moved-as (rw (p .before .before .before .copy .ensures) at (p .tighten-pairs .ensures)) (pairs-tightened h (pairs b) 0 b (omega arith) none) in
     let e = moved-shape h w in
-    let o = moved-falling h (falling-pairs (study-natural (s .pre)) (study-room (s .pre))) w in
-    (shapely-kept e h, filled-kept e h (study-filled (s .pre)), falling-natural o, room-more (2 ^ 50) (falling-room o) (omega (arith, h .pairs)))
+    let o = moved-falling h (falling-pairs (study-non-negative (s .pre)) (study-room (s .pre))) w in
+    (shape-in-range-kept e h, non-empty-kept e h (study-non-empty (s .pre)), falling-non-negative o, room-more (2 ^ 50) (falling-room o) (omega (arith, h .pairs)))
 
 slice-aggregate-settle : tie.Need-slice-aggregate-settle
 slice-aggregate-settle c = search needs

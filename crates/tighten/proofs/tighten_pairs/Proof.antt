@@ -9,9 +9,9 @@ use Rattle.tables.proofs.Study.{same-pairs}
 use Rattle.operations.specs.Fold.{iter}
 use Rattle.operations.proofs.Fold.{iter-zero, iter-turn}
 use Rattle.rewriting.proofs.Runs.{room-more}
-use Rattle.rewriting.proofs.Shape.{Moved, none, moved-as, moved-shape, shapely-kept, filled-kept}
+use Rattle.rewriting.proofs.Shape.{Moved, none, moved-as, moved-shape, shape-in-range-kept, non-empty-kept}
 use Rattle.tighten.specs.Tighten.{pairTightened}
-use Rattle.tighten.proofs.Falls.{Tight, falling-room, falling-natural, falling-pairs, moved-falling, pairs-tightened}
+use Rattle.tighten.proofs.Falls.{Tight, falling-room, falling-non-negative, falling-pairs, moved-falling, pairs-tightened}
 use Rattle.tighten.proofs.tighten_pairs.Statement.{statement}
 use Rattle.tighten.proofs.tighten_pairs.Tie as tie
 
@@ -40,9 +40,9 @@ tighten-pair-requires c κs =
     let w = chain l in
     let e = moved-shape h w in
     let o = moved-falling h (falling-pairs (s .pre .2) (s .pre .3)) w in (
-      shapely-kept e h,
-      filled-kept e h (s .pre .1),
-      falling-natural o,
+      shape-in-range-kept e h,
+      non-empty-kept e h (s .pre .1),
+      falling-non-negative o,
       room-more (2 ^ 50) (falling-room o) (omega (arith, l .before .pairs .ensures, h .pairs)),
       omega (arith, l .before .pairs .ensures, same-pairs e),
     )

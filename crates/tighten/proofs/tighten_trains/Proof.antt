@@ -9,7 +9,7 @@ use Rattle.tables.proofs.Study.{same-trains}
 use Rattle.operations.specs.Fold.{iter}
 use Rattle.operations.proofs.Fold.{iter-zero, iter-turn}
 use Rattle.rewriting.proofs.Runs.{room-more}
-use Rattle.rewriting.proofs.Shape.{Moved, none, moved-as, moved-shape, shapely-kept, filled-kept}
+use Rattle.rewriting.proofs.Shape.{Moved, none, moved-as, moved-shape, shape-in-range-kept, non-empty-kept}
 use Rattle.tighten.specs.Tighten.{trainTightened}
 use Rattle.tighten.proofs.Falls.{Tight, falling-room, falling-trains, moved-falling, trains-tightened}
 use Rattle.tighten.proofs.tighten_trains.Statement.{statement}
@@ -38,8 +38,8 @@ tighten-train-requires c κs =
     let s = l .before .before .before in
     let w = chain l in
     let e = moved-shape (s .pre .0) w in (
-      shapely-kept e (s .pre .0),
-      filled-kept e (s .pre .0) (s .pre .1),
+      shape-in-range-kept e (s .pre .0),
+      non-empty-kept e (s .pre .0) (s .pre .1),
       room-more (2 ^ 57) (falling-room (moved-falling (s .pre .0) (falling-trains (s .pre .2) (s .pre .3)) w)) (omega (arith, l .before .trains .ensures, s .pre .0 .trains)),
       omega (arith, l .before .trains .ensures, same-trains e),
     )

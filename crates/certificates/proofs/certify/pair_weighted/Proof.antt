@@ -8,7 +8,7 @@ use Rattle.tables.specs.Block.{size, first, second}
 use Rattle.tables.proofs.Sum.{sum-none, sum-more}
 use Rattle.tables.proofs.Study.{trains-range, pairs-range, size-range, first-below-trains, second-below-trains}
 use Rattle.certificates.specs.Runs.{rowWeighted, pairWeighted}
-use Rattle.certificates.proofs.Runs.{row-inside, row-light, rows-most}
+use Rattle.certificates.proofs.Runs.{row-inside, row-weights, rows-most}
 use Rattle.certificates.proofs.certify.pair_weighted.Statement.{statement}
 use Rattle.certificates.proofs.certify.pair_weighted.Tie as tie
 
@@ -54,7 +54,7 @@ run-weighted-requires : tie.Need-run-weighted-requires Inv-loop μ-loop
 run-weighted-requires c κs = let l = c .before .before in
     let s = l .before .before .before .before .before .before in
     rw (s .pre .1 .1 .1 .begins, l .loop .inv .1, c .entry-place .ensures)
-    (row-light (s .pre .0) (s .pre .1 .1 .0) (s .args .k) (s .pre .1 .1 .1 .there) (s .pre .1 .0) (l .loop .a) (omega arith))
+    (row-weights (s .pre .0) (s .args .k) (s .pre .1 .1 .1 .there) (s .pre .1 .1 .0) (s .pre .1 .0) (l .loop .a) (omega arith))
 
 -- the call answers for row a
 run : (c : tie.After-run-weighted Inv-loop μ-loop)
@@ -72,7 +72,7 @@ add-sum c = let l = c .before .before .before in
       arith,
       run c,
       sum-more (l .loop .a) (rowWeighted (s .args .b .now) (s .args .weights .now) (s .args .k)),
-      rows-most (s .pre .0) (s .pre .1 .1 .0) (s .args .k) (s .pre .1 .1 .1 .there) (l .loop .a + 1) (omega arith),
+      rows-most (s .pre .0) (s .args .k) (s .pre .1 .1 .1 .there) (s .pre .1 .1 .0) (l .loop .a + 1) (omega arith),
       size-range (s .pre .0) _ (first-below-trains (s .pre .0) (s .args .k) (s .pre .1 .1 .1 .there)),
     )
 

@@ -1,4 +1,4 @@
--- The sum so far is that of the weights passed, each times its number. The run is light, so that no front of it is more than 100,000 times the highest held cost.
+-- The sum so far is that of the weights passed, each times its number. Its weights are within W, so that no front of it is more than 100,000 times the highest held cost.
 use borrow.Author.Needs.{needs}
 use mathlib.Core.Path.{_≡_, sym, _∙_}
 use Prim.Native.Nat.{_-_, _≤_}

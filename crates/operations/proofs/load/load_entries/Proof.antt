@@ -7,7 +7,7 @@ use native.Mathlib.Omega.{arith}
 use lib.ListN.{length}
 use native.Mathlib.Nat.{mul-le-mul}
 use Rattle.tables.specs.Block.{maxChoices}
-use Rattle.tables.specs.Numbers.{nth, rowsOf, entryStart}
+use Rattle.tables.specs.Numbers.{nth, lanesOf, entryStart}
 use Rattle.tables.proofs.Sum.{sum-none, sum-more, sum-part}
 use Rattle.operations.specs.Fold.{iter}
 use Rattle.operations.proofs.Fold.{iter-zero, iter-more}
@@ -25,7 +25,7 @@ loop-holds : tie.Need-loop-holds Inv-loop μ-loop
 loop-holds c = (omega arith, refl, sym (sum-none _), sym (iter-zero _ _))
 
 abbrev costs : (sizes firsts seconds : List ℕ) → ℕ → ℕ
-costs sizes firsts seconds j = rowsOf sizes firsts j * rowsOf sizes seconds j
+costs sizes firsts seconds j = lanesOf sizes firsts j * lanesOf sizes seconds j
 
 -- where the function begins
 abbrev begin : tie.In-loop Inv-loop μ-loop → tie.Start Inv-loop μ-loop
@@ -35,8 +35,8 @@ begin c = c .before .before .before .before .before .before
 known : (c : tie.In-loop Inv-loop μ-loop)
     → (nth (begin c .args .firsts .now) (c .before .loop .k) < length (begin c .args .sizes .now))
     × (nth (begin c .args .seconds .now) (c .before .loop .k) < length (begin c .args .sizes .now))
-    × (rowsOf (begin c .args .sizes .now) (begin c .args .firsts .now) (c .before .loop .k) ≤ maxChoices)
-    × (rowsOf (begin c .args .sizes .now) (begin c .args .seconds .now) (c .before .loop .k) ≤ maxChoices)
+    × (lanesOf (begin c .args .sizes .now) (begin c .args .firsts .now) (c .before .loop .k) ≤ maxChoices)
+    × (lanesOf (begin c .args .sizes .now) (begin c .args .seconds .now) (c .before .loop .k) ≤ maxChoices)
     × (c .before .loop .start + costs (begin c .args .sizes .now) (begin c .args .firsts .now) (begin c .args .seconds .now) (c .before .loop .k) ≤ length (begin c .args .entries .now))
 known c =
     let s = begin c in
@@ -100,7 +100,7 @@ loop-again c =
       omega arith,
       search needs,
       omega (arith, sum-more k (costs (a .sizes .now) (a .firsts .now) (a .seconds .now))),
-      pair-at (a .scale .0) (a .entries .now) (rowsOf (a .sizes .now) (a .firsts .now) k) (rowsOf (a .sizes .now) (a .seconds .now) k) k (c .before .load-pair .ensures) (l .loop .inv .2) (l .loop .inv .3)
+      pair-at (a .scale .0) (a .entries .now) (lanesOf (a .sizes .now) (a .firsts .now) k) (lanesOf (a .sizes .now) (a .seconds .now) k) k (c .before .load-pair .ensures) (l .loop .inv .2) (l .loop .inv .3)
           ∙ sym (iter-more k (entriesTurn (a .scale .0) (a .sizes .now) (a .firsts .now) (a .seconds .now) (a .entries .now)) (a .b .now)),
     )
 

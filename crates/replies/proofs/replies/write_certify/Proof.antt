@@ -31,7 +31,7 @@ returns : tie.Need-returns
 returns c =
     let s = c .before .before .before .before .before .before .before .before .before .before .before .before .before .before .before .before .before .before in
     wrote-as (wrote-field (wrote-field (wrote-field (wrote-field wrote-none 1 refl (c .before .before .before .before .before .before .before .before .before .before .before .before .before .before .before .put-field .ensures)) 1 (c .before .before .before .before .before .before .before .before .before .before .before .flag .ensures) (c .before .before .before .before .before .before .before .before .before .before .put-field2 .ensures)) 8 refl (c .before .before .before .before .before .before .put-field3 .ensures)) 3 refl (c .before .before .put-field4 .ensures))
-    (certify-fields (s .args .whole) (s .args .c))
+    (certify-fields (s .args .full) (s .args .c))
 
 pub write-certify-spec : {M : Type 1} → statement M
 write-certify-spec =

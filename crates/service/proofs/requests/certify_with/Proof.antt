@@ -10,7 +10,7 @@ decode-requires : tie.Need-decode-requires
 decode-requires c κs = let s = c .before .before .before .before in (omega (arith, certify-ready (s .pre .0) .inside, s .pre .1), omega arith)
 
 certify-requires : tie.Need-certify-requires
-certify-requires c κs = let s = c .before .before .before .before .before .before .before .before in let r = certify-ready (s .pre .0) in (r .study, (r .whole, rw (c .before .before .before .decode .ensures, s .pre .1) (r .weights)))
+certify-requires c κs = let s = c .before .before .before .before .before .before .before .before in let r = certify-ready (s .pre .0) in (r .study, (r .fullWeight, rw (c .before .before .before .decode .ensures, s .pre .1) (r .weights)))
 
 enum-told : tie.Need-enum-told
 enum-told c = search needs

@@ -1,0 +1,145 @@
+-- After any list of calls from the fresh block the block is fresh still, or it and the ledger keep together: before the first accepted load only a load is accepted, and each call
+-- after it keeps them together.
+use mathlib.Core.Path.{_≡_, refl, sym, subst}
+use mathlib.Core.Bool.{Bool, true, false, cond, _&&_}
+use mathlib.Core.List.{List, [], _∷_, _++_}
+use mathlib.Core.Logic.{_⊎_, inl, inr}
+use Prim.Native.Nat.{ℕ}
+use lib.Dec.{eqb}
+use lib.IntN.{ℤ}
+use Rattle.tables.specs.Range.{pass}
+use Rattle.tables.specs.WellFormed.{isZero, fresh, wellFormed, freshBlock}
+use Rattle.tables.proofs.Range.{not-both, both-true}
+use Rattle.tables.proofs.Study.{study-well-formed}
+use Rattle.lines.specs.declared.request.Request.{Request}
+use Rattle.lines.specs.declared.request.Request.the-variants.{Load, Add, Shift, Tighten, Certify, Search}
+use Rattle.lines.specs.Kinds.{kindNumber, requestKind}
+use Rattle.lines.specs.Layout.{kindOf}
+use Rattle.reader.proofs.LineAccepted.{Makes, line-makes}
+use Rattle.reader.proofs.LineKind.{line-kind}
+use Rattle.service.specs.Answer.{Answer, requested, answer}
+use Rattle.service.specs.Calls.{Call, Exchange, exchange, lastBlock, blocks, exchanges}
+use Rattle.service.proofs.AnswerCases.{answer-cases}
+use Rattle.service.proofs.Lists.{nextAnswer, exchanges-more}
+use Rattle.claims.specs.Ledger.{Ledger, accepted, fed, ledgerOf, emptyLedger, hasLoad}
+use Rattle.claims.specs.Claims.{AtCall, EachCall}
+use Rattle.claims.proofs.Keeps.{Keeps}
+use Rattle.claims.proofs.ReadBack.{empty-refused, refusal-refused}
+use Rattle.claims.proofs.Steps.{fed-refused, Good, line-allowed, declined-call, empty-call, good-load, good-call}
+
+fresh-is : fresh freshBlock ≡ true
+unfolding fresh pass isZero
+fresh-is = refl
+
+right-fresh : wellFormed freshBlock ≡ true
+unfolding wellFormed
+right-fresh = rw fresh-is refl
+
+-- ---- fresh, or kept together
+
+abbrev pub State : Ledger → List ℤ → Type 0
+State g b = (b ≡ freshBlock) ⊎ Keeps g b
+
+pub state-right : {g : Ledger} {b : List ℤ} → State g b → wellFormed b ≡ true
+state-right (inl e) = rw e right-fresh
+state-right (inr k) = study-well-formed (k .study)
+
+-- ---- one call
+
+-- of a call that had the block b and the answer a: the state afterwards, in which an accepted line leaves block and ledger together, and what is claimed of it
+pub record Called (g : Ledger) (b : List ℤ) (l : List ℕ) (a : Answer) : Type 0 where
+  pub state : State (fed (exchange l (a .reply)) g) (a .block)
+  pub kept : accepted (a .reply) ≡ true → Keeps (fed (exchange l (a .reply)) g) (a .block)
+  pub call : AtCall (fed (exchange l (a .reply)) g) b (exchange l (a .reply))
+
+called-good : {g : Ledger} {b : List ℤ} {l : List ℕ} {a : Answer} → Good g b l a → Called g b l a
+called-good w = record { state = inr (w .keeps); kept = λ y. w .keeps; call = w .call }
+
+module _ (g : Ledger) (l : List ℕ) where
+  -- a fresh block, and a reply that is not accepted
+  called-quiet : (reply : List ℕ) → accepted reply ≡ false → AtCall g freshBlock (exchange l reply) → Called g freshBlock l (record { block = freshBlock; reply = reply })
+  called-quiet reply e c = record { state = inl refl; kept = λ y. absurd (not-both y e); call = rw (fed-refused g l reply e) c }
+
+  -- on a fresh block only a load is asked
+  new-request : (q : Request) → Makes l freshBlock q → kindOf l ≡ kindNumber (requestKind q) → Good g freshBlock l (requested q l freshBlock)
+  new-request (Load q) m e = subst (λ (s : Request). Good g freshBlock l (requested s l freshBlock)) (sym (m .0)) (good-load g l freshBlock e (m .1))
+  new-request (Add q) m e = absurd (not-both fresh-is (m .2))
+  new-request (Shift q) m e = absurd (not-both fresh-is (m .2))
+  new-request Tighten m e = absurd (not-both fresh-is (m .2))
+  new-request (Certify q) m e = absurd (not-both fresh-is (m .2))
+  new-request (Search q) m e = absurd (not-both fresh-is (m .2))
+
+  called-new : (buffer : List ℕ) → Called g freshBlock l (answer l freshBlock buffer)
+  called-new buffer =
+      answer-cases l freshBlock buffer (Called g freshBlock l)
+      (λ h. called-quiet [] empty-refused (empty-call g freshBlock l))
+      (λ e. absurd (not-both right-fresh e))
+      (λ r e. called-quiet _ (refusal-refused r) (declined-call g freshBlock l r (line-allowed l freshBlock r e)))
+      (λ q a. called-good (new-request q (line-makes l freshBlock q (a .asked) .1) (line-kind l freshBlock q (a .asked))))
+
+pub called : {g : Ledger} {b : List ℤ} → State g b → (l buffer : List ℕ) → Called g b l (answer l b buffer)
+called {g} (inl e) l buffer = rw e (called-new g l buffer)
+called (inr k) l buffer = called-good (good-call k l buffer)
+
+-- ---- lists of calls, from any state
+
+pub after-from : {g : Ledger} {b : List ℤ} → State g b → (cs : List Call) → State (ledgerOf g (exchanges b cs)) (lastBlock b cs)
+unfolding exchanges ledgerOf lastBlock
+after-from s [] = s
+after-from s (c ∷ cs) = after-from (called s (c .line) (c .buffer) .state) cs
+
+pub kept-from : {g : Ledger} {b : List ℤ} → Keeps g b → (cs : List Call) → Keeps (ledgerOf g (exchanges b cs)) (lastBlock b cs)
+unfolding exchanges ledgerOf lastBlock
+kept-from k [] = k
+kept-from k (c ∷ cs) = kept-from (good-call k (c .line) (c .buffer) .keeps) cs
+
+-- an accepted load among them leaves block and ledger together
+pub loaded-from : {g : Ledger} {b : List ℤ} → State g b → (cs : List Call) → hasLoad (exchanges b cs) ≡ true → Keeps (ledgerOf g (exchanges b cs)) (lastBlock b cs)
+unfolding exchanges ledgerOf lastBlock hasLoad
+loaded-from s [] y = absurd (not-both y refl)
+loaded-from {g} {b} s (c ∷ cs) y = go (accepted (a .reply) && eqb (kindOf (c .line)) 1) refl y (loaded-from (w .state) cs)
+  where
+    a : Answer
+    a = answer (c .line) b (c .buffer)
+
+    w : Called g b (c .line) a
+    w = called s (c .line) (c .buffer)
+
+    go : (t : Bool) → accepted (a .reply) && eqb (kindOf (c .line)) 1 ≡ t → cond t true (hasLoad (exchanges (a .block) cs)) ≡ true
+        → (hasLoad (exchanges (a .block) cs) ≡ true → Keeps (ledgerOf (fed (exchange (c .line) (a .reply)) g) (exchanges (a .block) cs)) (lastBlock (a .block) cs))
+        → Keeps (ledgerOf (fed (exchange (c .line) (a .reply)) g) (exchanges (a .block) cs)) (lastBlock (a .block) cs)
+    go true e y others = kept-from (w .kept (both-true (accepted (a .reply)) (eqb (kindOf (c .line)) 1) e .0)) cs
+    go false e y others = others y
+
+pub each-from : {g : Ledger} {b : List ℤ} → State g b → (cs : List Call) → EachCall g (blocks b cs) (exchanges b cs)
+unfolding EachCall blocks exchanges
+each-from s [] = tt
+each-from s (c ∷ cs) = let w = called s (c .line) (c .buffer) in (w .call, each-from (w .state) cs)
+
+-- ---- lists of calls, from the fresh block
+
+-- the ledger after a list
+abbrev pub ledgerAfter : List Call → Ledger
+ledgerAfter cs = ledgerOf emptyLedger (exchanges freshBlock cs)
+
+pub after-calls : (cs : List Call) → State (ledgerAfter cs) (lastBlock freshBlock cs)
+after-calls cs = after-from (inl refl) cs
+
+pub after-load : (cs : List Call) → hasLoad (exchanges freshBlock cs) ≡ true → Keeps (ledgerAfter cs) (lastBlock freshBlock cs)
+after-load cs = loaded-from (inl refl) cs
+
+-- ---- one call more
+
+pub ledger-more : (g : Ledger) (es : List Exchange) (e : Exchange) → ledgerOf g (es ++ e ∷ []) ≡ fed e (ledgerOf g es)
+unfolding ledgerOf
+ledger-more g [] e = refl
+ledger-more g (d ∷ es) e = ledger-more (fed d g) es e
+
+module _ (cs : List Call) (c : Call) where
+  -- its answer, by the ledger and the block that the list leaves
+  pub after-more : Called (ledgerAfter cs) (lastBlock freshBlock cs) (c .line) (nextAnswer freshBlock cs c)
+  after-more = called (after-calls cs) (c .line) (c .buffer)
+
+  -- the ledger then is fed its exchange; the block is `last-more` in service
+  pub ledger-after-more : ledgerAfter (cs ++ c ∷ []) ≡ fed (exchange (c .line) (nextAnswer freshBlock cs c .reply)) (ledgerAfter cs)
+  ledger-after-more = rw (exchanges-more freshBlock cs c) (ledger-more emptyLedger (exchanges freshBlock cs) (exchange (c .line) (nextAnswer freshBlock cs c .reply)))

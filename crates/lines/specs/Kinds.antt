@@ -1,0 +1,51 @@
+-- Document 01, 'Lines': the kinds of lines, their numbers, and which of them need a loaded study.
+use mathlib.Core.Bool.{Bool, true, false, cond}
+use Prim.Native.Nat.{ℕ}
+use lib.Dec.{eqb}
+use Rattle.lines.specs.declared.kind.Kind.{Kind}
+use Rattle.lines.specs.declared.kind.Kind.the-variants as kind
+use Rattle.lines.specs.declared.kind.NewKind.{NewKind}
+use Rattle.lines.specs.declared.kind.NewKind.the-variants.{Known, NoSuch}
+use Rattle.lines.specs.declared.request.Request.{Request}
+use Rattle.lines.specs.declared.request.Request.the-variants.{Load, Add, Shift, Tighten, Certify, Search}
+
+-- '01 load', '02 add', '03 shift', '04 tighten', '05 certify', '06 search'
+abbrev pub kindNumber : Kind → ℕ
+kindNumber kind.Load = 1
+kindNumber kind.Add = 2
+kindNumber kind.Shift = 3
+kindNumber kind.Tighten = 4
+kindNumber kind.Certify = 5
+kindNumber kind.Search = 6
+
+-- this kind where the number is its own
+abbrev pub kindIf : Kind → ℕ → NewKind → NewKind
+kindIf k n other = cond (eqb n (kindNumber k)) (Known k) other
+
+-- 'The first byte is the kind': the kind of this number, if there is one
+unfoldable pub newKind : ℕ → NewKind
+newKind n =
+    kindIf kind.Load n
+    (kindIf kind.Add n
+    (kindIf kind.Shift n
+    (kindIf kind.Tighten n
+    (kindIf kind.Certify n
+    (kindIf kind.Search n NoSuch)))))
+
+-- 4: 'kinds 02-06 on a fresh block'
+abbrev pub needsStudy : Kind → Bool
+needsStudy kind.Load = false
+needsStudy kind.Add = true
+needsStudy kind.Shift = true
+needsStudy kind.Tighten = true
+needsStudy kind.Certify = true
+needsStudy kind.Search = true
+
+-- the kind of a request
+abbrev pub requestKind : Request → Kind
+requestKind (Load q) = kind.Load
+requestKind (Add q) = kind.Add
+requestKind (Shift q) = kind.Shift
+requestKind Tighten = kind.Tighten
+requestKind (Certify q) = kind.Certify
+requestKind (Search q) = kind.Search

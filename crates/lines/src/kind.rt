@@ -1,0 +1,53 @@
+// Document 01, 'Lines': 'The first byte is the kind.'
+ghost use mathlib.Core.Path.{_≡_};
+ghost use Rattle.lines.specs.Kinds.{newKind, needsStudy};
+
+pub enum Kind {
+    Load,
+    Add,
+    Shift,
+    Tighten,
+    Certify,
+    Search,
+}
+
+// What the constructor of a kind answers.
+pub enum NewKind {
+    Known(Kind),
+    // There is no kind of this number.
+    NoSuch,
+}
+
+impl Kind {
+    // How many bytes a kind has.
+    pub const WIDTH: usize = 1;
+
+    // The kind of this number.
+    pub fn new(number: u64) -> NewKind
+        ensures { λ r. ⌜ r ≡ newKind number ⌝ }
+    {
+        match number {
+            1 => NewKind::Known(Kind::Load),
+            2 => NewKind::Known(Kind::Add),
+            3 => NewKind::Known(Kind::Shift),
+            4 => NewKind::Known(Kind::Tighten),
+            5 => NewKind::Known(Kind::Certify),
+            6 => NewKind::Known(Kind::Search),
+            _ => NewKind::NoSuch,
+        }
+    }
+
+    // Whether a line of this kind is declined on a fresh block.
+    pub fn needs_study(self) -> bool
+        ensures { λ r. ⌜ r ≡ needsStudy self ⌝ }
+    {
+        match self {
+            Kind::Load => false,
+            Kind::Add => true,
+            Kind::Shift => true,
+            Kind::Tighten => true,
+            Kind::Certify => true,
+            Kind::Search => true,
+        }
+    }
+}

@@ -1,0 +1,90 @@
+-- The walk of a block in the terms of the code: what is left is a difference, the next place is one more, and what a choice adds stands in a row of sums.
+use mathlib.Core.Path.{_≡_, sym, ap, ap₂, _∙_}
+use mathlib.Core.Bool.{true, false, cond}
+use mathlib.Core.List.{List}
+use mathlib.Core.Logic.{dite}
+use Prim.Native.Nat.{ℕ, _+_, _-_, _<_}
+use native.Mathlib.Nat.{sub-zero}
+use native.Mathlib.Decide.{ℕ-discrete}
+use native.Mathlib.Omega.{arith}
+use lib.Dec.{eqb}
+use lib.IntN.{ℤ}
+use lib.ListN.{length, set}
+use lib.Seq.{getD-set-same}
+use borrow.Author.Tests.{ne-eqb}
+use Rattle.tables.specs.Block.{maxTrains, trains, pairs, constant, size, first, second, heldChoice, heldEntry}
+use Rattle.tables.specs.WellFormed.{Study}
+use Rattle.tables.specs.Plans.{shapeOf, heldCosts}
+use Rattle.tables.proofs.Sum.{sum-cong}
+use Rattle.tables.proofs.Study.{trains-range, first-below-second}
+use Rattle.rows.specs.Added.{choicesOf, rowAdded, sumBelow}
+use Rattle.rows.proofs.Written.{kept}
+use Rattle.search.specs.declared.walk.Walk.{Walk}
+use Rattle.search.specs.Walk.{pairAdded, added, counted, markedSpent, wholePlan, dropped, oneTry, openedTrain, noChoices, nothingTried, walked, searched}
+use Rattle.search.specs.Held.{tryOf, choicesFrom}
+use Rattle.search.proofs.Tries.{one-less}
+
+-- ---- what a choice adds
+
+-- what choice a of train t adds is its sum over all pairs: a pair's first train was decided before
+pub added-row : {b : List ℤ} → Study b → (t a : ℕ) (chosen : List ℕ) → t < trains b → length chosen ≡ maxTrains
+    → added (shapeOf b) (heldCosts b) (choicesOf (set chosen t a)) t ≡ sumBelow b (choicesOf chosen) t a (pairs b)
+unfolding added shapeOf heldCosts
+added-row {b} s t a chosen h l = ap₂ _+_ (ap (heldChoice b t) here) (sum-cong (pairs b) _ _ at-pair)
+  where
+    here : choicesOf (set chosen t a) t ≡ a
+    here = getD-set-same chosen t a 0 (omega (arith, trains-range s))
+
+    at-pair : (k : ℕ) → k < pairs b → pairAdded (shapeOf b) (heldCosts b) (choicesOf (set chosen t a)) t k ≡ rowAdded b (choicesOf chosen) t a k
+    at-pair k q =
+        dite (ℕ-discrete (second b k) t)
+        (λ (e : second b k ≡ t). ap (λ (v : ℕ). cond (eqb (second b k) t) v 0)
+        (ap₂ (heldEntry b k) (kept chosen t a (first b k) (omega (arith, first-below-second s k q))) (ap (choicesOf (set chosen t a)) e ∙ here)))
+        (λ n. rw (ne-eqb (second b k) t n))
+
+-- ---- trains and tries
+
+module _ (b : List ℤ) (budget : ℕ) where
+  whole : (u partial : ℕ) (chosen : List ℕ) (w : Walk) → u ≡ trains b → openedTrain (shapeOf b) (heldCosts b) budget (trains b - u) u partial chosen w ≡ wholePlan partial chosen w
+  unfolding openedTrain
+  whole u partial chosen w e = let z : trains b - u ≡ 0 = omega arith in rw z
+
+  pub opens : (u partial : ℕ) (chosen : List ℕ) (w : Walk) → u < trains b
+      → openedTrain (shapeOf b) (heldCosts b) budget (trains b - u) u partial chosen w ≡ choicesFrom b budget u 0 partial chosen w
+  unfolding openedTrain tryOf shapeOf
+  opens u partial chosen w h = rw (one-less u (trains b) h) (let z : size b u - 0 ≡ size b u = omega arith in rw z)
+
+  -- the first train
+  pub starts : {partial : ℕ} {w : Walk} → 0 < trains b → partial ≡ constant b → w ≡ nothingTried → searched b budget ≡ choicesFrom b budget 0 0 partial noChoices w
+  unfolding searched walked shapeOf heldCosts
+  starts {partial} {w} h e f =
+      rw (sub-zero (trains b)) at (opens 0 (constant b) noChoices nothingTried h)
+      ∙ ap₂ (λ (p : ℕ) (v : Walk). choicesFrom b budget 0 0 p noChoices v) (sym e) (sym f)
+
+  -- one try, by its ways
+  module _ (t a total : ℕ) (chosen : List ℕ) (w : Walk) where
+    pub try-spent : w .spent ≡ true → tryOf b budget t total chosen a w ≡ w
+    unfolding oneTry tryOf
+    try-spent e = rw e
+
+    module _ (e : w .spent ≡ false) where
+      pub try-out : eqb (w .count) budget ≡ true → tryOf b budget t total chosen a w ≡ markedSpent w
+      unfolding oneTry tryOf
+      try-out f = rw (e, f)
+
+      module _ (f : eqb (w .count) budget ≡ false) where
+        pub try-dropped : dropped w total ≡ true → tryOf b budget t total chosen a w ≡ counted w
+        unfolding oneTry tryOf
+        try-dropped d = rw (e, f, d)
+
+        -- what the next train does with the choices l and the walk v
+        module _ {l : List ℕ} {v : Walk} (d : dropped w total ≡ false) (p : l ≡ set chosen t a) (q : v ≡ counted w) where
+          try-next : tryOf b budget t total chosen a w ≡ openedTrain (shapeOf b) (heldCosts b) budget (trains b - (t + 1)) (t + 1) total l v
+          unfolding oneTry tryOf
+          try-next = rw (p, q, e, f, d)
+
+          pub try-whole : t + 1 ≡ trains b → tryOf b budget t total chosen a w ≡ wholePlan total l v
+          try-whole h = try-next ∙ whole (t + 1) total l v h
+
+          pub try-opens : t + 1 < trains b → tryOf b budget t total chosen a w ≡ choicesFrom b budget (t + 1) 0 total l v
+          try-opens h = try-next ∙ opens (t + 1) total l v h

@@ -1,0 +1,24 @@
+-- The run is a lane of the pair: its places are in the block, and there is one at least.
+use borrow.Author.Needs.{needs}
+use Rattle.rewriting.proofs.Shape.{lane, lane-non-empty, project-run}
+use Rattle.tighten.proofs.tighten_lane.Statement.{statement}
+use Rattle.tighten.proofs.tighten_lane.Tie as tie
+
+lane-requires : tie.Need-lane-requires
+lane-requires c κs = search needs
+
+tighten-run-requires : tie.Need-tighten-run-requires
+tighten-run-requires c κs =
+    let s = c .before .before .before in
+    let a = s .args in
+    let p = lane (a .side) (a .k) (a .x) (s .pre .3) (s .pre .4) in
+    rw (c .lane .ensures) (project-run (s .pre .0) p, lane-non-empty (s .pre .1) (a .side) (a .k) (a .x) (s .pre .3), s .pre .2)
+
+same-length : tie.Need-same-length
+same-length c = search needs
+
+returns : tie.Need-returns
+returns c = rw (c .before .before .lane .ensures) at (c .before .tighten-run .ensures)
+
+pub tighten-lane-spec : {M : Type 1} → statement M
+tighten-lane-spec = tie.close (tie.spec lane-requires tighten-run-requires same-length returns)
