@@ -25,7 +25,7 @@ use Rattle.lines.specs.declared.refusal.Refusal.the-variants.{Malformed}
 use Rattle.lines.specs.Kinds.{newKind}
 use Rattle.lines.specs.Layout.{pairAt}
 use Rattle.lines.specs.Numbers.{entriesOf, numbersOf}
-use Rattle.lines.specs.Verdicts.{firstOf, fieldVerdict, pairOrdered, pairVerdict, headVerdict, restVerdict, loadVerdict}
+use Rattle.lines.specs.Verdicts.{firstOf, fieldVerdict, runsVerdict, pairOrdered, pairVerdict, headVerdict, restVerdict, loadVerdict}
 use Rattle.reader.specs.Reading.{addVerdict, shiftVerdict, certifyVerdict, searchVerdict, studyLine, kindLine, lineOf}
 use Rattle.search.specs.Walk.{partialTotal, oneTry, triedFrom, openedTrain, walked, searched}
 use Rattle.search.specs.Walk as walk
@@ -51,7 +51,7 @@ unfolding text zeros marks places rows grids laid held call row declined decline
     moveRun pairShifted shifted runLeast runTightened pairTightened tightened
     trainBalanced rowBalanced columnBalanced pairBalanced balanced overChoices overPairs weighted
     digit digitOf byteAt field signed fieldDigits allDigits framed listFrom
-    newKind pairAt entriesOf numbersOf firstOf fieldVerdict pairOrdered pairVerdict headVerdict restVerdict loadVerdict
+    newKind pairAt entriesOf numbersOf firstOf fieldVerdict runsVerdict pairOrdered pairVerdict headVerdict restVerdict loadVerdict
     addVerdict shiftVerdict certifyVerdict searchVerdict studyLine kindLine lineOf
     walk.added partialTotal oneTry triedFrom openedTrain walked searched searchAnswer
     refusalReply boundReply certifyReply planDigits searchReply

@@ -8,10 +8,10 @@ use lib.Dec.{eqb}
 use lib.IntN.{ℤ}
 use Rattle.tables.specs.Block.{constant}
 use Rattle.tables.specs.WellFormed.{Study}
-use Rattle.tables.specs.Plans.{Shape, IsPlan, total, shapeOf, heldCosts}
+use Rattle.tables.specs.Plans.{Shape, AlikeShapes, IsPlan, total, shapeOf, heldCosts}
 use Rattle.tables.specs.Ranges.{maxFullWeight}
 use Rattle.tables.proofs.Range.{both-true}
-use Rattle.tables.proofs.Plans.{study-shaped}
+use Rattle.tables.proofs.Plans.{study-shaped, alike-back, alike-plan}
 use Rattle.certificates.specs.declared.certify.Certificate.the-variants.{Unbalanced, Balanced}
 use Rattle.certificates.specs.declared.certify.Ceiling.{Ceiling}
 use Rattle.certificates.specs.Certify.{Weights, balanced, weighted, weightsOf, ceiling, certificate}
@@ -71,11 +71,9 @@ unfolding sumOf
 sumOf-cong zero f g h = refl
 sumOf-cong (suc n) f g h = ap₂ plus (sumOf-cong n f g (λ i l. h i (omega arith))) (h n (omega arith))
 
-pub rival-shape : (s u : Shape) (f : (ℕ → ℕ) → ℕ) (r : Rival) → u .trains ≡ s .trains → u .pairs ≡ s .pairs
-    → ((k : ℕ) → k < s .pairs → u .first k ≡ s .first k) → ((k : ℕ) → k < s .pairs → u .second k ≡ s .second k)
-    → ((x : ℕ → ℕ) → IsPlan u x → IsPlan s x) → IsRival s f r → IsRival u f r
+pub rival-alike : {s u : Shape} → AlikeShapes u s → (f : (ℕ → ℕ) → ℕ) (r : Rival) → IsRival s f r → IsRival u f r
 unfolding IsRival rivalTotal
-rival-shape s u f r n m first second plans is x p = rw (n, m, sumOf-cong (s .pairs) _ _ at-pair) (is x (plans x p))
+rival-alike {s} {u} e f r is x p = rw (sumOf-cong (u .pairs) _ _ at-pair, e .trains-same, e .pairs-same) (is x (alike-plan (alike-back e) x p))
   where
-    at-pair : (k : ℕ) → k < s .pairs → r .pair k (x (u .first k)) (x (u .second k)) ≡ r .pair k (x (s .first k)) (x (s .second k))
-    at-pair k h = rw (first k h, second k h)
+    at-pair : (k : ℕ) → k < u .pairs → r .pair k (x (u .first k)) (x (u .second k)) ≡ r .pair k (x (s .first k)) (x (s .second k))
+    at-pair k h = rw (e .firsts-same k h, e .seconds-same k h)

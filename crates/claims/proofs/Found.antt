@@ -11,7 +11,7 @@ use Rattle.certificates.specs.declared.certify.Certificate.the-variants.{Balanc
 use Rattle.certificates.specs.declared.certify.Ceiling.{Ceiling}
 use Rattle.certificates.specs.Certify.{Weights, certificate}
 use Rattle.certificates.specs.Rival.{Rival, IsRival, ConstantAtMost}
-use Rattle.certificates.proofs.Ceilings.{certify-rival, rival-cong, rival-shape}
+use Rattle.certificates.proofs.Ceilings.{certify-rival, rival-cong, rival-alike}
 use Rattle.rows.specs.Added.{choicesOf}
 use Rattle.search.specs.Answer.{searchAnswer}
 use Rattle.search.proofs.Theorems.{answer-plan, answer-cost, answer-least}
@@ -22,12 +22,10 @@ use Rattle.claims.proofs.Keeps.{Keeps, plan-in, plan-out, cost-is, tota
 module _ {g : Ledger} {b : List ℤ} (k : Keeps g b) where
   -- 'W × the constant of every rival is at most E'
   pub ceiling-holds : (w : Weights) {c : Ceiling} → certificate b w ≡ Balanced c → (r : Rival) → IsRival (g .shape) (scaledCost g) r → ConstantAtMost (w .fullWeight) (c .weighted) r
-  unfolding shapeOf
   ceiling-holds w e r is =
       certify-rival w (k .study) e r
       (rival-cong (shapeOf b) (scaledCost g) (heldTotal b) r (λ x p. sym (total-is k x (plan-out k x p)))
-      (rival-shape (g .shape) (shapeOf b) (scaledCost g) r (k .same .trains-same) (k .same .pairs-same) (λ j h. k .same .firsts-same j (omega (arith, k .same .pairs-same)))
-      (λ j h. k .same .seconds-same j (omega (arith, k .same .pairs-same))) (λ x p. plan-out k x p) is))
+      (rival-alike (k .same .shape-same) (scaledCost g) r is))
 
   -- every plan's total is a whole number of points
   points : (x : ℕ → ℕ) → IsPlan (shapeOf b) x → heldTotal b x ≡ scale b * costOf g x

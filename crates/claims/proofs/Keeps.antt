@@ -6,13 +6,12 @@ use native.Mathlib.Omega.{arith}
 use native.Mathlib.Nat.{mul-le-mul}
 use lib.IntN.{ℤ}
 use Rattle.units.proofs.Bound.{rounded-least}
-use Rattle.tables.specs.Sum.{sum}
-use Rattle.tables.specs.Block.{maxTrains, maxPairs, maxCost, maxParts, trains, scale, pairs, constant, first, second, loadedChoice, loadedEntry}
+use Rattle.tables.specs.Block.{maxTrains, maxPairs, maxCost, maxParts, trains, scale, pairs, constant, first, second, loadedEntry}
 use Rattle.tables.specs.WellFormed.{Study}
 use Rattle.tables.specs.Plans.{Shape, Costs, IsPlan, choiceTotal, pairTotal, total, shapeOf, loadedCosts, heldCosts, loadedTotal, heldTotal}
-use Rattle.tables.proofs.Plans.{constant-at-most-total}
+use Rattle.tables.proofs.Plans.{study-shaped, plan-first, plan-second, total-cong, constant-at-most-total, alike-back, alike-plan, alike-total}
 use Rattle.tables.proofs.Study.{trains-range, scale-range, pairs-range, first-below-trains, second-below-trains, loaded-choice-range, loaded-entry-range}
-use Rattle.tables.proofs.Sum.{sum-cong, sum-most}
+use Rattle.tables.proofs.Sum.{sum-most}
 use Rattle.replies.specs.Replies.{boundOf}
 use Rattle.claims.specs.Ledger.{Ledger, costOf}
 use Rattle.claims.specs.Claims.{PlanOf, scaledCost, SameStudy, AfterList}
@@ -27,30 +26,19 @@ pub record Keeps (g : Ledger) (b : List ℤ) : Type 0 where
 module _ {g : Ledger} {b : List ℤ} (k : Keeps g b) where
   -- the ledger's plans are the block's
   pub plan-in : (x : ℕ → ℕ) → PlanOf g x → IsPlan (shapeOf b) x
-  unfolding IsPlan shapeOf
-  plan-in x p i h = omega (arith, p i (omega (arith, k .same .trains-same)), k .same .sizes-same i h)
+  plan-in = alike-plan (k .same .shape-same)
 
   pub plan-out : (x : ℕ → ℕ) → IsPlan (shapeOf b) x → PlanOf g x
-  unfolding IsPlan shapeOf
-  plan-out x p i h = let q : i < trains b = omega (arith, k .same .trains-same) in omega (arith, p i q, k .same .sizes-same i q)
+  plan-out = alike-plan (alike-back (k .same .shape-same))
 
   -- a plan's cost by the ledger is its total in H
   pub cost-is : (x : ℕ → ℕ) → IsPlan (shapeOf b) x → costOf g x ≡ loadedTotal b x
-  unfolding total choiceTotal pairTotal IsPlan shapeOf loadedCosts
+  unfolding IsPlan shapeOf loadedCosts
   cost-is x p =
-      omega (
-        arith,
-        k .no-constant,
-        ap (λ (n : ℕ). sum n (λ i. g .costs .choice i (x i))) (k .same .trains-same),
-        sum-cong (trains b) (λ i. loadedChoice b i (x i)) (λ i. g .costs .choice i (x i)) (λ i h. k .same .choices-same i (x i) h (p i h)),
-        ap (λ (m : ℕ). sum m (λ j. g .costs .pair j (x (g .shape .first j)) (x (g .shape .second j)))) (k .same .pairs-same),
-        sum-cong (pairs b) (λ j. loadedEntry b j (x (first b j)) (x (second b j))) (λ j. g .costs .pair j (x (g .shape .first j)) (x (g .shape .second j))) at-pair,
-      )
-    where
-      at-pair : (j : ℕ) → j < pairs b → loadedEntry b j (x (first b j)) (x (second b j)) ≡ g .costs .pair j (x (g .shape .first j)) (x (g .shape .second j))
-      at-pair j h =
-          k .same .entries-same j _ _ h (p (first b j) (first-below-trains (k .study) j h)) (p (second b j) (second-below-trains (k .study) j h))
-          ∙ ap₂ (λ (u v : ℕ). g .costs .pair j (x u) (x v)) (k .same .firsts-same j h) (k .same .seconds-same j h)
+      let sh = study-shaped (k .study) in
+      sym (alike-total (k .same .shape-same) (g .costs) x)
+      ∙ sym (total-cong (shapeOf b) (loadedCosts b) (g .costs) x (sym (k .no-constant)) (λ i h. k .same .choices-same i (x i) h (p i h))
+      (λ j h. k .same .entries-same j (x (first b j)) (x (second b j)) h (plan-first (shapeOf b) sh x p j h) (plan-second (shapeOf b) sh x p j h)))
 
   -- every plan's total is s times its cost
   pub total-is : (x : ℕ → ℕ) → PlanOf g x → heldTotal b x ≡ scaledCost g x

@@ -1,20 +1,20 @@
 -- Each operation keeps the block and the ledger together.
-use mathlib.Core.Path.{_≡_, refl, sym, ap, _∙_}
+use mathlib.Core.Path.{_≡_, refl, sym, ap, subst, _∙_}
 use mathlib.Core.List.{List}
 use mathlib.Core.Logic.{inl, inr}
-use Prim.Native.Nat.{ℕ, _+_, _*_, _<_, _≤_}
+use Prim.Native.Nat.{ℕ, _+_, _*_, _<_}
 use native.Mathlib.Decide.{ℕ-discrete}
 use native.Mathlib.Nat.{mul-add}
 use native.Mathlib.Omega.{arith}
 use lib.IntN.{ℤ}
 use lib.ListN.{length}
 use borrow.Author.Tests.{eq-eqb, ne-eqb}
-use Rattle.tables.specs.Block.{maxTrains, maxPairs, trains, scale, pairs, size, first, second, loadedChoicePlace, loadedEntryPlace, at, loadedChoice, loadedEntry}
+use Rattle.tables.specs.Block.{trains, scale, pairs, size, first, second, loadedChoicePlace, loadedEntryPlace, at, loadedChoice, loadedEntry}
 use Rattle.tables.specs.Numbers.{Numbers, InRange}
 use Rattle.tables.specs.WellFormed.{Study}
-use Rattle.tables.specs.Plans.{IsPlan, shapeOf, loadedCosts, loadedTotal, heldTotal}
-use Rattle.tables.proofs.Plans.{same-shape-total, total-cong}
-use Rattle.tables.proofs.Study.{trains-range, pairs-range, size-range, first-below-trains, second-below-trains, SameShape, same-figure, same-trains, same-scale, same-pairs, same-size, same-first, same-second}
+use Rattle.tables.specs.Plans.{AlikeShapes, IsPlan, shapeOf, loadedCosts, loadedTotal, heldTotal}
+use Rattle.tables.proofs.Plans.{total-cong, alike-back, alike-then, alike-plan, same-shape-alike, same-shape-total}
+use Rattle.tables.proofs.Study.{trains-range, pairs-range, size-range, first-below-trains, second-below-trains, SameShape, same-figure, same-trains, same-scale, same-pairs}
 use Rattle.operations.specs.Load.{loadedBlock}
 use Rattle.operations.specs.Add.{added}
 use Rattle.operations.proofs.Loaded.{load-study, load-total, load-trains, load-scale, load-pairs, load-size, load-first, load-second, load-loaded-choice, load-loaded-entry}
@@ -28,17 +28,21 @@ use Rattle.claims.proofs.Keeps.{Keeps}
 
 -- the ledger of the numbers of a load
 pub load-keeps : (l : Numbers) → InRange l → Keeps (record { scale = l .scale; shape = numbersShape l; costs = numbersCosts l }) (loadedBlock l)
+unfolding shapeOf
 load-keeps l r =
     record {
       study = load-study r;
       same =
           record {
-            trains-same = load-trains r;
+            shape-same =
+                record {
+                  trains-same = load-trains r;
+                  sizes-same = λ i h. load-size r i (there i h);
+                  pairs-same = load-pairs r;
+                  firsts-same = λ k h. load-first r k (pair-there k h);
+                  seconds-same = λ k h. load-second r k (pair-there k h);
+                };
             scale-same = load-scale r;
-            sizes-same = λ i h. load-size r i (there i h);
-            pairs-same = load-pairs r;
-            firsts-same = λ k h. load-first r k (pair-there k h);
-            seconds-same = λ k h. load-second r k (pair-there k h);
             choices-same = choice;
             entries-same = entry;
           };
@@ -67,33 +71,26 @@ load-keeps l r =
 
 -- the loaded costs of a changed block that keeps its shape and H
 module _ {g : Ledger} {b c : List ℤ} (k : Keeps g b) (s : Study c) (e : SameShape b c) where
-  few : (trains b ≤ maxTrains) × (pairs b ≤ maxPairs)
-  few = (trains-range (k .study) .1, pairs-range (k .study))
-
-  back-size : (i : ℕ) → i < trains c → size c i ≡ size b i
-  back-size i h = same-size e i (omega (arith, few, same-trains e))
+  alike : AlikeShapes (shapeOf c) (shapeOf b)
+  alike = same-shape-alike e (k .study)
 
   -- plans are the same
   pub back-plan : (x : ℕ → ℕ) → IsPlan (shapeOf c) x → IsPlan (shapeOf b) x
-  unfolding IsPlan shapeOf
-  back-plan x p i h = let q : i < trains c = omega (arith, same-trains e) in omega (arith, p i q, back-size i q)
+  back-plan = alike-plan (alike-back alike)
 
   -- H of c is the ledger's costs, and totals are s times those in H
   pub keeps-from : (h : Ledger) → h .shape ≡ g .shape → h .scale ≡ g .scale → h .costs .constant ≡ 0
       → ((i a : ℕ) → i < trains b → a < size b i → loadedChoice c i a ≡ h .costs .choice i a)
       → ((j a d : ℕ) → j < pairs b → a < size b (first b j) → d < size b (second b j) → loadedEntry c j a d ≡ h .costs .pair j a d)
       → ((x : ℕ → ℕ) → IsPlan (shapeOf b) x → heldTotal c x ≡ scale b * loadedTotal c x) → Keeps h c
+  unfolding shapeOf
   keeps-from h shape scales zero choices entries totals =
       record {
         study = s;
         same =
             record {
-              trains-same = rw shape (same-trains e ∙ k .same .trains-same);
+              shape-same = subst (AlikeShapes (shapeOf c)) (sym shape) (alike-then alike (k .same .shape-same));
               scale-same = same-scale e ∙ k .same .scale-same ∙ sym scales;
-              sizes-same = λ i q. rw shape (back-size i q ∙ k .same .sizes-same i (omega (arith, same-trains e)));
-              pairs-same = rw shape (same-pairs e ∙ k .same .pairs-same);
-              firsts-same = λ j q. rw shape (back-first j q ∙ k .same .firsts-same j (omega (arith, same-pairs e)));
-              seconds-same = λ j q. rw shape (back-second j q ∙ k .same .seconds-same j (omega (arith, same-pairs e)));
               choices-same = λ i a q r. choices i a (omega (arith, same-trains e)) (rw (back-size i q) at r);
               entries-same = λ j a d q r t.
                   entries j a d (omega (arith, same-pairs e)) (rw (back-first j q, back-size _ (first-there j q)) at r) (rw (back-second j q, back-size _ (second-there j q)) at t);
@@ -102,11 +99,14 @@ module _ {g : Ledger} {b c : List ℤ} (k : Keeps g b) (s : Study c) (e : SameSh
         scaled = λ x p. rw (same-scale e) (totals x (back-plan x p));
       }
     where
+      back-size : (i : ℕ) → i < trains c → size c i ≡ size b i
+      back-size = alike .sizes-same
+
       back-first : (j : ℕ) → j < pairs c → first c j ≡ first b j
-      back-first j q = same-first e j (omega (arith, few, same-pairs e))
+      back-first = alike .firsts-same
 
       back-second : (j : ℕ) → j < pairs c → second c j ≡ second b j
-      back-second j q = same-second e j (omega (arith, few, same-pairs e))
+      back-second = alike .seconds-same
 
       first-there : (j : ℕ) → j < pairs c → first b j < trains c
       first-there j q = omega (arith, first-below-trains (k .study) j (omega (arith, same-pairs e)), same-trains e)

@@ -8,13 +8,13 @@ use native.Mathlib.Decide.{ℕ-discrete, decLt}
 use native.Mathlib.Omega.{arith}
 use lib.IntN.{ℤ}
 use borrow.Author.Tests.{eq-eqb, ne-eqb}
-use Rattle.tables.specs.Block.{maxTrains, maxPairs, maxCost, trains, pairs, size, first, second, loadedChoice}
+use Rattle.tables.specs.Block.{maxTrains, maxPairs, maxCost, trains, size, first, second, loadedChoice}
 use Rattle.tables.specs.Ranges.{maxFullWeight}
 use Rattle.tables.specs.WellFormed.{holdsStudy, Study}
 use Rattle.tables.specs.Plans.{IsPlan, shapeOf, loadedCosts, loadedTotal}
-use Rattle.tables.proofs.Plans.{same-shape-total}
+use Rattle.tables.proofs.Plans.{study-shaped, alike-inside, same-shape-total}
 use Rattle.tables.proofs.Range.{not-both}
-use Rattle.tables.proofs.Study.{holds-study, study-well-formed, trains-range, pairs-range, size-range, first-below-trains, second-below-trains, loaded-choice-range}
+use Rattle.tables.proofs.Study.{holds-study, study-well-formed, trains-range, pairs-range, size-range, loaded-choice-range}
 use Rattle.operations.specs.declared.outcome.Outcome.{Outcome}
 use Rattle.operations.specs.declared.outcome.Outcome.the-variants.{Done, CostAbove as cost-above, PartsOutside as parts-outside}
 use Rattle.operations.specs.Add.{added, addOutcome, addBlock}
@@ -243,13 +243,11 @@ module _ {g : Ledger} {b : List ℤ} (k : Keeps g b) (l : List ℕ) where
           (at-ceiling g b l (certifyFullWeight l) c e (low .0) (omega (arith, low .1)) (omega (arith, certify-fits (certifyFullWeight l) weights (k .study) (low .1) h)) (rw (w .shown) (w .reached)) (ceiling-holds k (weightsOf b (certifyFullWeight l) weights) h))
 
   found-right : (budget : ℕ) → Right g (trains b) (searchAnswer b budget)
-  unfolding searchAnswer
+  unfolding shapeOf searchAnswer
   found-right budget =
       record {
-        trains = k .same .trains-same;
-        inside = λ j h.
-            let q : j < pairs b = omega (arith, k .same .pairs-same) in
-            (omega (arith, k .same .firsts-same j q, first-below-trains (k .study) j q), omega (arith, k .same .seconds-same j q, second-below-trains (k .study) j q));
+        trains = k .same .shape-same .trains-same;
+        inside = alike-inside (k .same .shape-same) (study-shaped (k .study));
         low = λ e. omega (arith, known-low k budget e);
         small = λ i h. omega (arith, search-entries (k .study) budget .1 i h, size-range (k .study) i h);
         plan = known-plan k budget;

@@ -15,7 +15,7 @@ use borrow.Author.Tests.{le-ltb}
 use Rattle.tables.specs.Sum.{sum}
 use Rattle.tables.specs.Block.{trains, scale, pairs, constant, size, first, second, loadedChoice, loadedEntry}
 use Rattle.tables.specs.WellFormed.{freshBlock}
-use Rattle.tables.specs.Plans.{IsPlan, choiceTotal, pairTotal, total, heldTotal}
+use Rattle.tables.specs.Plans.{IsPlan, choiceTotal, pairTotal, total, shapeOf, heldTotal}
 use Rattle.tables.proofs.Range.{not-both}
 use Rattle.certificates.specs.Rival.{asFraction, plus, times, sumOf, Same, AtMost, Rival, rivalTotal, IsRival, ConstantAtMost}
 use Rattle.frames.specs.Digits.{digit, byteAt}
@@ -180,18 +180,21 @@ module _ {b₀ b₁ b₂ b₃ b : List ℤ} (d : Claimed (b₀ ∷ b₁ ∷ b₂
   after = d .after refl
 
   j-shape : (trains b ≡ 2) × (scale b ≡ 1) × (size b 0 ≡ 2) × (pairs b ≡ 1) × (first b 0 ≡ 0) × (second b 0 ≡ 1)
-  unfolding told load j
+  unfolding told load j shapeOf
   j-shape =
-      let s = after .same in
-      (s .trains-same, s .scale-same, s .sizes-same 0 (omega (arith, s .trains-same)), s .pairs-same, s .firsts-same 0 (omega (arith, s .pairs-same)), s .seconds-same 0 (omega (arith, s .pairs-same)))
+      let s = after .same .shape-same in
+      let n : trains b ≡ 2 = s .trains-same in
+      let m : pairs b ≡ 1 = s .pairs-same in
+      (n, after .same .scale-same, s .sizes-same 0 (omega arith), m, s .firsts-same 0 (omega arith), s .seconds-same 0 (omega arith))
 
   j-costs : (loadedChoice b 0 0 ≡ 2) × (loadedEntry b 0 0 0 ≡ 1)
-  unfolding told load j
+  unfolding told load j shapeOf
   j-costs =
       let s = after .same in
-      let e = j-shape in (
+      let e = j-shape in
+      let d : size b 1 ≡ 2 = s .shape-same .sizes-same 1 (omega (arith, e .0)) in (
         s .choices-same 0 0 (omega (arith, e .0)) (omega (arith, e .2)),
-        s .entries-same 0 0 0 (omega (arith, e .3)) (rw (e .4) (omega (arith, e .2))) (rw (e .5, s .sizes-same 1 (omega (arith, e .0))) (omega arith)),
+        s .entries-same 0 0 0 (omega (arith, e .3)) (rw (e .4) (omega (arith, e .2))) (rw (e .5, d) (omega arith)),
       )
 
   j-total : heldTotal b (plan 0 1) ≡ 2

@@ -9,7 +9,7 @@ use lib.Dec.{eqb}
 use lib.IntN.{ℤ}
 use Rattle.tables.specs.Block.{trains, scale, pairs, constant, size, first, second, loadedChoice, loadedEntry}
 use Rattle.tables.specs.WellFormed.{wellFormed, freshBlock}
-use Rattle.tables.specs.Plans.{IsPlan, heldTotal}
+use Rattle.tables.specs.Plans.{AlikeShapes, IsPlan, shapeOf, heldTotal}
 use Rattle.certificates.specs.Rival.{Rival, IsRival, ConstantAtMost}
 use Rattle.frames.specs.Fields.{field}
 use Rattle.lines.specs.Layout.{kindOf}
@@ -127,12 +127,8 @@ EachCall g (b ∷ bs) (e ∷ es) = AtCall (fed e g) b e × EachCall (fed e g) bs
 -- the block b holds the ledger's study
 pub record SameStudy (g : Ledger) (b : List ℤ) : Type 0 where
   -- 'the block's n, s, sizes and pairs are the ledger's' (`j-shape`)
-  pub trains-same : trains b ≡ g .shape .trains
+  pub shape-same : AlikeShapes (shapeOf b) (g .shape)
   pub scale-same : scale b ≡ g .scale
-  pub sizes-same : (i : ℕ) → i < trains b → size b i ≡ g .shape .size i
-  pub pairs-same : pairs b ≡ g .shape .pairs
-  pub firsts-same : (k : ℕ) → k < pairs b → first b k ≡ g .shape .first k
-  pub seconds-same : (k : ℕ) → k < pairs b → second b k ≡ g .shape .second k
   -- 'Loaded costs H' are the ledger's 'costs in points' (`j-costs`)
   pub choices-same : (i a : ℕ) → i < trains b → a < size b i → loadedChoice b i a ≡ g .costs .choice i a
   pub entries-same : (k a c : ℕ) → k < pairs b → a < size b (first b k) → c < size b (second b k) → loadedEntry b k a c ≡ g .costs .pair k a c

@@ -14,11 +14,12 @@ use Rattle.frames.specs.Digits.{bytes}
 use Rattle.frames.specs.Fields.{field}
 use Rattle.lines.specs.declared.refusal.Refusal.{Refusal}
 use Rattle.lines.specs.declared.refusal.Refusal.the-variants.{Fields}
-use Rattle.lines.specs.declared.request.Rule.{Rule}
 use Rattle.lines.specs.declared.request.Rule.the-variants.{Between}
+use Rattle.lines.specs.declared.request.Field.{Field}
 use Rattle.lines.specs.declared.request.Verdict.{Verdict}
 use Rattle.lines.specs.declared.request.Verdict.the-variants.{Fine, Declined}
-use Rattle.lines.specs.Verdicts.{then, isFine, firstOf, unless, obeys, fieldVerdict, runVerdict, endVerdict}
+use Rattle.lines.specs.Layout.{fieldAs, numberIn, further}
+use Rattle.lines.specs.Verdicts.{then, isFine, firstOf, unless, obeys, fieldVerdict, runVerdict, endVerdict, runsVerdict}
 
 -- ---- the first reason
 
@@ -80,15 +81,15 @@ module _ (f : ℕ → Verdict) where
 -- ---- fields that were judged fine
 
 -- a field is wholly there, and its number is within its rule
-pub record Read (l : List ℕ) (at width : ℕ) (rule : Rule) : Type 0 where
-  pub there : at + width ≤ bytes l
-  pub right : obeys rule width (field l at width) ≡ true
+pub record Read (l : List ℕ) (f : Field) : Type 0 where
+  pub there : f .at + f .width ≤ bytes l
+  pub right : obeys (f .rule) (f .width) (numberIn l f) ≡ true
 
-pub field-fine : (l : List ℕ) (at width : ℕ) (rule : Rule) (r : Refusal) → fieldVerdict l at width rule r ≡ Fine → Read l at width rule
+pub field-fine : (l : List ℕ) (f : Field) → fieldVerdict l f ≡ Fine → Read l f
 unfolding fieldVerdict
-field-fine l at width rule r e =
-    let f = then-fine (unless (leb (at + width) (bytes l)) Fields) (unless (obeys rule width (field l at width)) r) e in
-    record { there = leb-true _ _ (unless-fine _ Fields (f .0)); right = unless-fine _ r (f .1) }
+field-fine l f e =
+    let g = then-fine (unless (leb (f .at + f .width) (bytes l)) Fields) (unless (obeys (f .rule) (f .width) (numberIn l f)) (f .refusal)) e in
+    record { there = leb-true _ _ (unless-fine _ Fields (g .0)); right = unless-fine _ (f .refusal) (g .1) }
 
 pub between : (low high width v : ℕ) → obeys (Between low high) width v ≡ true → (low ≤ v) × (v ≤ high)
 between low high width v e =
@@ -96,21 +97,30 @@ between low high width v e =
     (leb-true low v (f .0), leb-true v high (f .1))
 
 -- both at once
-pub field-within : (l : List ℕ) (at width low high : ℕ) (r : Refusal) → fieldVerdict l at width (Between low high) r ≡ Fine
+pub field-within : (l : List ℕ) (at width low high : ℕ) (r : Refusal) → fieldVerdict l (fieldAs at width (Between low high) r) ≡ Fine
     → (at + width ≤ bytes l) × ((low ≤ field l at width) × (field l at width ≤ high))
 field-within l at width low high r e =
-    let f = field-fine l at width (Between low high) r e in
+    let f = field-fine l (fieldAs at width (Between low high) r) e in
     (f .there, between low high width (field l at width) (f .right))
 
-module _ (l : List ℕ) (at width : ℕ) (rule : Rule) (r : Refusal) (n : ℕ) (e : runVerdict l at width n rule r ≡ Fine) where
-  pub run-fine : (k : ℕ) → k < n → Read l (at + width * k) width rule
-  run-fine k h = field-fine l (at + width * k) width rule r (first-fine (λ j. fieldVerdict l (at + width * j) width rule r) n e k h)
+module _ (l : List ℕ) (f : Field) (n : ℕ) (e : runVerdict l f n ≡ Fine) where
+  pub run-fine : (k : ℕ) → k < n → Read l (further f k)
+  run-fine k h = field-fine l (further f k) (first-fine (λ j. fieldVerdict l (further f j)) n e k h)
 
 -- the run is wholly there
-pub run-there : (l : List ℕ) (at width : ℕ) (rule : Rule) (r : Refusal) (n : ℕ) → at ≤ bytes l → runVerdict l at width n rule r ≡ Fine
-    → at + width * n ≤ bytes l
-run-there l at width rule r zero h e = omega (arith, mul-zero width)
-run-there l at width rule r (suc n) h e = omega (arith, run-fine l at width rule r (suc n) e n (omega arith) .there, mul-suc width n)
+pub run-there : (l : List ℕ) (f : Field) (n : ℕ) → f .at ≤ bytes l → runVerdict l f n ≡ Fine → f .at + f .width * n ≤ bytes l
+run-there l f zero h e = omega (arith, mul-zero (f .width))
+run-there l f (suc n) h e = omega (arith, run-fine l f (suc n) e n (omega arith) .there, mul-suc (f .width) n)
 
 pub end-fine : (count at : ℕ) → endVerdict count at ≡ Fine → at ≡ count
 end-fine count at e = eqb-true at count (unless-fine (eqb at count) Fields e)
+
+-- two runs that were judged fine, and nothing behind them
+pub runs-fine : (l : List ℕ) (f : Field) (n : ℕ) (g : Field) (m : ℕ) → runsVerdict l f n g m ≡ Fine
+    → (runVerdict l f n ≡ Fine) × (runVerdict l g m ≡ Fine) × (bytes l ≡ g .at + g .width * m)
+unfolding runsVerdict
+runs-fine l f n g m e =
+    let end = endVerdict (bytes l) (further g m .at) in
+    let p = then-fine (runVerdict l f n) (then (runVerdict l g m) end) e in
+    let q = then-fine (runVerdict l g m) end (p .1) in
+    (p .0, q .0, sym (end-fine (bytes l) (further g m .at) (q .1)))

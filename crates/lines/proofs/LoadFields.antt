@@ -14,10 +14,9 @@ use Rattle.tables.specs.WellFormed.{before}
 use Rattle.tables.proofs.Range.{both-true}
 use Rattle.tables.proofs.Sum.{sum-mono, sum-const}
 use Rattle.frames.specs.Digits.{bytes}
-use Rattle.lines.specs.declared.refusal.Refusal.the-variants.{Fields, Range, Cost, Pair}
-use Rattle.lines.specs.declared.request.Rule.the-variants.{Between}
+use Rattle.lines.specs.declared.refusal.Refusal.the-variants.{Fields, Range, Pair}
 use Rattle.lines.specs.declared.request.Verdict.the-variants.{Fine}
-use Rattle.lines.specs.Layout.{costWidth, loadTrains, loadScale, sizesAt, loadSize, choiceCount, pairCountAt, entryCount, pairAt, loadFirst, loadSecond}
+use Rattle.lines.specs.Layout.{costWidth, costField, trainsField, scaleField, sizeField, loadTrains, loadScale, sizesAt, loadSize, choiceCount, pairCountAt, entryCount, pairAt, loadFirst, loadSecond}
 use Rattle.lines.specs.Verdicts.{Sized, then, unless, fieldVerdict, runVerdict, pairOrdered, pairVerdict, headVerdict, sizesVerdict}
 use Rattle.lines.proofs.Judged.{then-fine, unless-fine, field-within, between, run-fine, run-there}
 
@@ -31,7 +30,7 @@ pub record Head (l : List ℕ) : Type 0 where
 pub head-fine : (l : List ℕ) → headVerdict l ≡ Fine → Head l
 unfolding headVerdict
 head-fine l e =
-    let f = then-fine (fieldVerdict l 1 1 (Between 1 maxTrains) Range) (fieldVerdict l 2 2 (Between scaleMin scaleMax) Range) e in
+    let f = then-fine (fieldVerdict l trainsField) (fieldVerdict l scaleField) e in
     let n = field-within l 1 1 1 maxTrains Range (f .0) in
     let s = field-within l 2 2 scaleMin scaleMax Range (f .1) in
     record { there = s .0; trains = n .1; scale = s .1 }
@@ -39,11 +38,11 @@ head-fine l e =
 pub sized : (l : List ℕ) → headVerdict l ≡ Fine → sizesVerdict l ≡ Fine → Sized l
 sized l e f =
     let h = head-fine l e in
-    let t = run-there l sizesAt 1 (Between 1 maxChoices) Range (loadTrains l) (h .there) f in
+    let t = run-there l sizeField (loadTrains l) (h .there) f in
     record {
       trains = h .trains .1;
       there = omega (arith, t);
-      sizes = λ i q. let r = run-fine l sizesAt 1 (Between 1 maxChoices) Range (loadTrains l) f i q in
+      sizes = λ i q. let r = run-fine l sizeField (loadTrains l) f i q in
           between 1 maxChoices 1 (loadSize l i) (rw one-mul at (r .right));
     }
 
@@ -69,13 +68,13 @@ pair-start l = refl
 pub record FinePair (l : List ℕ) (k : ℕ) : Type 0 where
   pub there : pairAt l k + 2 ≤ bytes l
   pub ordered : pairOrdered l k ≡ true
-  pub costs : runVerdict l (pairAt l k + 2) costWidth (entryCount l (pairAt l k)) (Between 0 maxCost) Cost ≡ Fine
+  pub costs : runVerdict l (costField (pairAt l k + 2)) (entryCount l (pairAt l k)) ≡ Fine
   pub next : pairAt l (k + 1) ≤ bytes l
 
 pub pair-fine : (l : List ℕ) (k : ℕ) → pairVerdict l k ≡ Fine → FinePair l k
 unfolding pairVerdict
 pair-fine l k e =
-    let costs = runVerdict l (pairAt l k + 2) costWidth (entryCount l (pairAt l k)) (Between 0 maxCost) Cost in
+    let costs = runVerdict l (costField (pairAt l k + 2)) (entryCount l (pairAt l k)) in
     let f = then-fine (unless (leb (pairAt l k + 2) (bytes l)) Fields) (then (unless (pairOrdered l k) Pair) costs) e in
     let g = then-fine (unless (pairOrdered l k) Pair) costs (f .1) in
     let there : pairAt l k + 2 ≤ bytes l = leb-true _ _ (unless-fine _ Fields (f .0)) in
@@ -83,7 +82,7 @@ pair-fine l k e =
       there = there;
       ordered = unless-fine _ Pair (g .0);
       costs = g .1;
-      next = omega (arith, pair-next l k, run-there l (pairAt l k + 2) costWidth (Between 0 maxCost) Cost (entryCount l (pairAt l k)) there (g .1));
+      next = omega (arith, pair-next l k, run-there l (costField (pairAt l k + 2)) (entryCount l (pairAt l k)) there (g .1));
     }
 
 -- its two trains

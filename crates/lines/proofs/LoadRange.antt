@@ -18,10 +18,9 @@ use Rattle.tables.proofs.Sum.{sum-none, sum-more, sum-cong}
 use Rattle.frames.specs.Fields.{field}
 use Rattle.frames.specs.Runs.{listOf, runOf}
 use Rattle.frames.proofs.Lists.{list-length, list-nth, list-past}
-use Rattle.lines.specs.declared.refusal.Refusal.the-variants.{Range, Cost}
-use Rattle.lines.specs.declared.request.Rule.the-variants.{Between}
+use Rattle.lines.specs.declared.refusal.Refusal.the-variants.{Range}
 use Rattle.lines.specs.declared.request.Verdict.the-variants.{Fine}
-use Rattle.lines.specs.Layout.{costWidth, loadTrains, loadSize, choicesAt, choiceCount, pairCountAt, loadPairs, entryCount, pairAt, loadFirst, loadSecond}
+use Rattle.lines.specs.Layout.{costWidth, costField, loadTrains, loadSize, choicesAt, choiceCount, pairCountAt, loadPairs, entryCount, pairAt, loadFirst, loadSecond}
 use Rattle.lines.specs.Numbers.{entriesOf, numbersOf}
 use Rattle.lines.specs.Verdicts.{runVerdict, loadVerdict}
 use Rattle.lines.proofs.Judged.{field-within, between, run-fine}
@@ -30,11 +29,11 @@ use Rattle.lines.proofs.LoadAccepted.{FineLoad, load-fine, load-sized, 
 use Rattle.lines.proofs.Entries.{entries-none, entries-more, entries-length}
 
 -- each entry of a run of costs that was judged fine, and 0 past its end
-run-costs : (l : List ℕ) (at n : ℕ) → runVerdict l at costWidth n (Between 0 maxCost) Cost ≡ Fine → (o : ℕ) → nth (runOf l at costWidth n) o ≤ maxCost
+run-costs : (l : List ℕ) (at n : ℕ) → runVerdict l (costField at) n ≡ Fine → (o : ℕ) → nth (runOf l at costWidth n) o ≤ maxCost
 run-costs l at n e o =
     let f : ℕ → ℕ = λ k. field l (at + costWidth * k) costWidth in
     dite (decLt o n)
-    (λ (q : o < n). rw (list-nth f 0 n o q) (between 0 maxCost costWidth (f o) (run-fine l at costWidth (Between 0 maxCost) Cost n e o q .right) .1))
+    (λ (q : o < n). rw (list-nth f 0 n o q) (between 0 maxCost costWidth (f o) (run-fine l (costField at) n e o q .right) .1))
     (λ (q : o < n → ⊥). rw (list-past f 0 n o (omega (arith, q))) (omega arith))
 
 -- entries of two lists that have a limit, one after the other

@@ -4,21 +4,22 @@ use mathlib.Core.List.{List}
 use Prim.Native.Nat.{ℕ, zero, suc, _+_, _*_, _-_, _<_, _≤_}
 use lib.Dec.{leb, ltb, eqb}
 use lib.IntN.{natAbs}
-use Rattle.units.specs.Units.{scaleMin, scaleMax, theScale}
-use Rattle.tables.specs.Block.{maxTrains, maxChoices, maxPairs, maxCost}
+use Rattle.units.specs.Units.{theScale}
+use Rattle.tables.specs.Block.{maxTrains, maxChoices}
 use Rattle.tables.specs.WellFormed.{before}
 use Rattle.frames.specs.Digits.{bytes}
-use Rattle.frames.specs.Fields.{field, signed}
+use Rattle.frames.specs.Fields.{signed}
 use Rattle.lines.specs.declared.refusal.Refusal.{Refusal}
-use Rattle.lines.specs.declared.refusal.Refusal.the-variants.{Fields, Range, Cost, Pair}
+use Rattle.lines.specs.declared.refusal.Refusal.the-variants.{Fields, Pair}
 use Rattle.lines.specs.declared.request.Verdict.{Verdict}
 use Rattle.lines.specs.declared.request.Verdict.the-variants.{Fine, Declined}
 use Rattle.lines.specs.declared.request.Rule.{Rule}
 use Rattle.lines.specs.declared.request.Rule.the-variants.{Any, Between, Around}
+use Rattle.lines.specs.declared.request.Field.{Field}
 use Rattle.lines.specs.declared.request.Run.{Run}
 use Rattle.lines.specs.declared.request.Request.{Request}
 use Rattle.lines.specs.declared.request.Request.the-variants.{Load}
-use Rattle.lines.specs.Layout.{costWidth, loadTrains, loadScale, sizesAt, loadSize, choicesAt, choiceCount, pairCountAt, loadPairs, entryCount, pairAt, loadFirst, loadSecond}
+use Rattle.lines.specs.Layout.{numberIn, further, costField, trainsField, scaleField, sizeField, pairCountField, loadTrains, loadScale, sizesAt, loadSize, choicesAt, choiceCount, pairCountAt, loadPairs, entryCount, pairAt, loadFirst, loadSecond}
 
 -- the first reason to decline
 abbrev pub then : Verdict → Verdict → Verdict
@@ -44,16 +45,20 @@ obeys (Between low high) width v = leb low v && leb v high
 obeys (Around limit) width v = leb (natAbs (signed width v)) limit
 
 -- one field: 5 where it is not wholly there, else judged by its rule
-unfoldable pub fieldVerdict : List ℕ → ℕ → ℕ → Rule → Refusal → Verdict
-fieldVerdict l at width rule r = then (unless (leb (at + width) (bytes l)) Fields) (unless (obeys rule width (field l at width)) r)
+unfoldable pub fieldVerdict : List ℕ → Field → Verdict
+fieldVerdict l f = then (unless (leb (f .at + f .width) (bytes l)) Fields) (unless (obeys (f .rule) (f .width) (numberIn l f)) (f .refusal))
 
--- a run of `count` fields, one after the other
-abbrev pub runVerdict : List ℕ → ℕ → ℕ → ℕ → Rule → Refusal → Verdict
-runVerdict l at width count rule r = firstOf count (λ k. fieldVerdict l (at + width * k) width rule r)
+-- a run of `count` fields, one after the other, of which this is the first
+abbrev pub runVerdict : List ℕ → Field → ℕ → Verdict
+runVerdict l f count = firstOf count (λ k. fieldVerdict l (further f k))
 
 -- 5: bytes left over, where the fields of a line of so many bytes end at byte `at`
 abbrev pub endVerdict : ℕ → ℕ → Verdict
 endVerdict count at = unless (eqb at count) Fields
+
+-- two runs of fields, and no bytes left over
+unfoldable pub runsVerdict : List ℕ → Field → ℕ → Field → ℕ → Verdict
+runsVerdict l f count g more = then (runVerdict l f count) (then (runVerdict l g more) (endVerdict (bytes l) (further g more .at)))
 
 -- `count` fields from byte `at` on: a long field of a request
 abbrev pub run : ℕ → ℕ → Run
@@ -71,23 +76,23 @@ pairOrdered l k =
 unfoldable pub pairVerdict : List ℕ → ℕ → Verdict
 pairVerdict l k =
     then (unless (leb (pairAt l k + 2) (bytes l)) Fields)
-    (then (unless (pairOrdered l k) Pair) (runVerdict l (pairAt l k + 2) costWidth (entryCount l (pairAt l k)) (Between 0 maxCost) Cost))
+    (then (unless (pairOrdered l k) Pair) (runVerdict l (costField (pairAt l k + 2)) (entryCount l (pairAt l k))))
 
 abbrev pub pairsVerdict : List ℕ → ℕ → Verdict
 pairsVerdict l m = firstOf m (pairVerdict l)
 
 -- n and s
 unfoldable pub headVerdict : List ℕ → Verdict
-headVerdict l = then (fieldVerdict l 1 1 (Between 1 maxTrains) Range) (fieldVerdict l 2 2 (Between scaleMin scaleMax) Range)
+headVerdict l = then (fieldVerdict l trainsField) (fieldVerdict l scaleField)
 
 abbrev pub sizesVerdict : List ℕ → Verdict
-sizesVerdict l = runVerdict l sizesAt 1 (loadTrains l) (Between 1 maxChoices) Range
+sizesVerdict l = runVerdict l sizeField (loadTrains l)
 
 abbrev pub choicesVerdict : List ℕ → Verdict
-choicesVerdict l = runVerdict l (choicesAt l) costWidth (choiceCount l) (Between 0 maxCost) Cost
+choicesVerdict l = runVerdict l (costField (choicesAt l)) (choiceCount l)
 
 abbrev pub pairCountVerdict : List ℕ → Verdict
-pairCountVerdict l = fieldVerdict l (pairCountAt l) 1 (Between 0 maxPairs) Range
+pairCountVerdict l = fieldVerdict l (pairCountField l)
 
 -- m pairs, and no bytes left over
 unfoldable pub restVerdict : List ℕ → ℕ → Verdict

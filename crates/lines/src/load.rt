@@ -8,13 +8,12 @@ ghost use Rattle.tables.specs.Sum.{sum};
 ghost use Rattle.frames.specs.Digits.{bytes};
 ghost use Rattle.frames.specs.Fields.{field};
 ghost use Rattle.frames.specs.Frames.{Framed};
-ghost use Rattle.lines.specs.declared.refusal.Refusal.the-variants.{Range, Cost};
-ghost use Rattle.lines.specs.declared.request.Rule.the-variants.{Between};
 ghost use Rattle.lines.specs.declared.request.Verdict.the-variants.{Fine};
 ghost use Rattle.lines.specs.declared.request.Line.the-variants.{Asked};
-ghost use Rattle.lines.specs.Layout.{costWidth, sizesAt, loadTrains, loadScale, loadSize, entryCount, pairAt};
+ghost use Rattle.lines.specs.Layout.{costWidth, sizesAt, sizeField, costField, loadTrains, loadScale, loadSize, entryCount, pairAt};
 ghost use Rattle.lines.specs.Verdicts.{Sized, runVerdict, pairOrdered, pairVerdict, headVerdict, restVerdict, loadVerdict, loadRequest};
 use crate::refusal::Refusal;
+use crate::request::Field;
 use crate::request::Line;
 use crate::request::Load;
 use crate::request::Request;
@@ -36,10 +35,12 @@ fn head_verdict(line: &[u8], bytes: usize) -> Verdict
     let trains = verdict::field_verdict(
         line,
         bytes,
-        1,
-        1,
-        Rule::Between(1, Block::TRAINS as u64),
-        Refusal::Range,
+        Field {
+            at: 1,
+            width: 1,
+            rule: Rule::Between(1, Block::TRAINS as u64),
+            refusal: Refusal::Range,
+        },
     );
     if !trains.is_fine() {
         return trains;
@@ -47,42 +48,48 @@ fn head_verdict(line: &[u8], bytes: usize) -> Verdict
     verdict::field_verdict(
         line,
         bytes,
-        2,
-        2,
-        Rule::Between(Scale::MIN, Scale::MAX),
-        Refusal::Range,
+        Field {
+            at: 2,
+            width: 2,
+            rule: Rule::Between(Scale::MIN, Scale::MAX),
+            refusal: Refusal::Range,
+        },
     )
 }
 
 // The sizes of n trains.
 fn sizes_verdict(line: &[u8], bytes: usize, n: usize) -> Verdict
     requires { ⌜ Framed (now line) bytes × (n ≤ maxTrains) ⌝ }
-    ensures { λ r. ⌜ r ≡ runVerdict (now (line .entry)) sizesAt 1 n (Between 1 maxChoices) Range ⌝ }
+    ensures { λ r. ⌜ r ≡ runVerdict (now (line .entry)) sizeField n ⌝ }
 {
     verdict::run_verdict(
         line,
         bytes,
-        Load::SIZES_AT,
-        1,
+        Field {
+            at: Load::SIZES_AT,
+            width: 1,
+            rule: Rule::Between(1, Block::CHOICES as u64),
+            refusal: Refusal::Range,
+        },
         n,
-        Rule::Between(1, Block::CHOICES as u64),
-        Refusal::Range,
     )
 }
 
 // A run of costs.
 fn costs_verdict(line: &[u8], bytes: usize, at: usize, count: usize) -> Verdict
     requires { ⌜ Framed (now line) bytes × (at < 2 ^ 32) × (count < 2 ^ 32) ⌝ }
-    ensures { λ r. ⌜ r ≡ runVerdict (now (line .entry)) at costWidth count (Between 0 maxCost) Cost ⌝ }
+    ensures { λ r. ⌜ r ≡ runVerdict (now (line .entry)) (costField at) count ⌝ }
 {
     verdict::run_verdict(
         line,
         bytes,
-        at,
-        Load::COST_WIDTH,
+        Field {
+            at: at,
+            width: Load::COST_WIDTH,
+            rule: Rule::cost(),
+            refusal: Refusal::Cost,
+        },
         count,
-        Rule::cost(),
-        Refusal::Cost,
     )
 }
 
@@ -199,10 +206,12 @@ pub fn load_verdict(line: &[u8], bytes: usize) -> Verdict
     let pairs = verdict::field_verdict(
         line,
         bytes,
-        at,
-        1,
-        Rule::Between(0, Block::PAIRS as u64),
-        Refusal::Range,
+        Field {
+            at: at,
+            width: 1,
+            rule: Rule::Between(0, Block::PAIRS as u64),
+            refusal: Refusal::Range,
+        },
     );
     if !pairs.is_fine() {
         return pairs;

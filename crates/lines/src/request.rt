@@ -106,6 +106,14 @@ impl Rule {
     }
 }
 
+// A field of a line: the byte where it begins, how many bytes it has, what its number must be, and why the line is declined where it is not.
+pub struct Field {
+    pub at: usize,
+    pub width: usize,
+    pub rule: Rule,
+    pub refusal: Refusal,
+}
+
 // Whether the fields so far are fine, or the first reason to decline the line.
 pub enum Verdict {
     Fine,

@@ -5,8 +5,10 @@ ghost use mathlib.Core.Bool.{_&&_};
 ghost use lib.Dec.{leb};
 ghost use Rattle.frames.specs.Fields.{maxWidth};
 ghost use Rattle.frames.specs.Frames.{Framed};
-ghost use Rattle.lines.specs.Verdicts.{obeys, fieldVerdict, runVerdict, endVerdict};
+ghost use Rattle.lines.specs.Layout.{further};
+ghost use Rattle.lines.specs.Verdicts.{obeys, fieldVerdict, runVerdict, endVerdict, runsVerdict};
 use crate::refusal::Refusal;
+use crate::request::Field;
 use crate::request::Rule;
 use crate::request::Verdict;
 use frames::fields;
@@ -34,17 +36,14 @@ fn between(low: u64, high: u64, v: u64) -> bool
 }
 
 // One field: declined where it is not wholly there, else judged by its rule.
-pub fn field_verdict(
-    line: &[u8],
-    bytes: usize,
-    at: usize,
-    width: usize,
-    rule: Rule,
-    refusal: Refusal,
-) -> Verdict
-    requires { ⌜ Framed (now line) bytes × (at < 2 ^ 40) × (width ≤ maxWidth) ⌝ }
-    ensures { λ r. ⌜ r ≡ fieldVerdict (now (line .entry)) at width rule refusal ⌝ }
+pub fn field_verdict(line: &[u8], bytes: usize, f: Field) -> Verdict
+    requires { ⌜ Framed (now line) bytes × (f .at < 2 ^ 40) × (f .width ≤ maxWidth) ⌝ }
+    ensures { λ r. ⌜ r ≡ fieldVerdict (now (line .entry)) f ⌝ }
 {
+    let at = f.at;
+    let width = f.width;
+    let rule = f.rule;
+    let refusal = f.refusal;
     if bytes < at + width {
         return Verdict::Declined(Refusal::Fields);
     }
@@ -55,28 +54,60 @@ pub fn field_verdict(
     }
 }
 
+// Field k of a run that begins with this one.
+fn further(f: Field, k: usize) -> Field
+    requires { ⌜ (f .at < 2 ^ 32) × (f .width ≤ maxWidth) × (k < 2 ^ 32) ⌝ }
+    ensures { λ r. ⌜ r ≡ further f k ⌝ }
+{
+    let rule = f.rule;
+    let refusal = f.refusal;
+    Field {
+        at: f.at + f.width * k,
+        width: f.width,
+        rule,
+        refusal,
+    }
+}
+
 // A run of fields, one after the other.
-pub fn run_verdict(
-    line: &[u8],
-    bytes: usize,
-    at: usize,
-    width: usize,
-    count: usize,
-    rule: Rule,
-    refusal: Refusal,
-) -> Verdict
-    requires { ⌜ Framed (now line) bytes × (at < 2 ^ 32) × (width ≤ maxWidth) × (count < 2 ^ 32) ⌝ }
-    ensures { λ r. ⌜ r ≡ runVerdict (now (line .entry)) at width count rule refusal ⌝ }
+pub fn run_verdict(line: &[u8], bytes: usize, f: Field, count: usize) -> Verdict
+    requires { ⌜ Framed (now line) bytes × (f .at < 2 ^ 32) × (f .width ≤ maxWidth) × (count < 2 ^ 32) ⌝ }
+    ensures { λ r. ⌜ r ≡ runVerdict (now (line .entry)) f count ⌝ }
 {
     let mut k = 0;
     while k < count {
-        let v = field_verdict(line, bytes, at + width * k, width, rule, refusal);
+        let v = field_verdict(line, bytes, further(f, k));
         if !v.is_fine() {
             return v;
         }
         k += 1;
     }
     Verdict::Fine
+}
+
+// Two runs of fields, and no bytes left over.
+pub fn runs_verdict(
+    line: &[u8],
+    bytes: usize,
+    first: Field,
+    count: usize,
+    second: Field,
+    more: usize,
+) -> Verdict
+    requires { ⌜ Framed (now line) bytes × (first .at < 2 ^ 32) × (first .width ≤ maxWidth) × (count < 2 ^ 32) ⌝ }
+    requires { ⌜ (second .at < 2 ^ 32) × (second .width ≤ maxWidth) × (more < 2 ^ 32) ⌝ }
+    ensures { λ r. ⌜ r ≡ runsVerdict (now (line .entry)) first count second more ⌝ }
+{
+    let v = run_verdict(line, bytes, first, count);
+    if !v.is_fine() {
+        return v;
+    }
+    let w = run_verdict(line, bytes, second, more);
+    if !w.is_fine() {
+        return w;
+    }
+    let end = further(second, more);
+    end_verdict(bytes, end.at)
 }
 
 // Whether a line of so many bytes ends at byte `at`.

@@ -2,18 +2,18 @@
 use mathlib.Core.Path.{_≡_, sym}
 use mathlib.Core.List.{List}
 use Prim.Native.Nat.{ℕ, _+_, _*_, _-_, _<_, _≤_}
+use native.Mathlib.Omega.{arith}
 use lib.IntN.{ℤ, natAbs}
 use borrow.Author.Tests.{leb-true}
 use Rattle.tables.specs.Block.{maxCost, trains, size}
 use Rattle.tables.specs.Ranges.{maxMove, maxFullWeight, maxBudget}
 use Rattle.frames.specs.Digits.{bytes}
 use Rattle.frames.specs.Fields.{field, signedField}
-use Rattle.lines.specs.declared.refusal.Refusal.the-variants.{Fields, Absent, Cost, Move, FullWeight, Budget}
-use Rattle.lines.specs.declared.request.Rule.the-variants.{Any, Between, Around}
+use Rattle.lines.specs.declared.refusal.Refusal.the-variants.{Absent, Cost, Budget}
 use Rattle.lines.specs.declared.request.Verdict.the-variants.{Fine}
-use Rattle.lines.specs.Layout.{costWidth, moveWidth, weightWidth, budgetWidth, addTrain, addChoice, addPoints, liftsAt, movesAt, certifyFullWeight, weightsAt, searchBudget}
-use Rattle.lines.specs.Verdicts.{then, fieldVerdict, runVerdict, endVerdict}
-use Rattle.lines.proofs.Judged.{then-fine, field-within, run-fine, between, end-fine}
+use Rattle.lines.specs.Layout.{costWidth, moveWidth, weightWidth, budgetWidth, indexField, addTrainAt, addTrain, addChoiceAt, addChoice, pointsField, addPoints, liftsAt, movesAt, liftField, moveField, fullWeightField, certifyFullWeight, weightsAt, weightField, budgetField, searchBudget}
+use Rattle.lines.specs.Verdicts.{then, fieldVerdict, endVerdict}
+use Rattle.lines.proofs.Judged.{then-fine, field-within, run-fine, runs-fine, between, end-fine}
 use Rattle.reader.specs.Reading.{addVerdict, shiftVerdict, certifyVerdict, searchVerdict}
 
 -- ---- 02 add
@@ -27,9 +27,9 @@ pub record FineAdd (l : List ℕ) (b : List ℤ) : Type 0 where
 pub add-fine : (l : List ℕ) (b : List ℤ) → addVerdict l b ≡ Fine → FineAdd l b
 unfolding addVerdict
 add-fine l b e =
-    let train = fieldVerdict l 1 1 (Between 0 (trains b - 1)) Absent in
-    let choice = fieldVerdict l 2 1 (Between 0 (size b (addTrain l) - 1)) Absent in
-    let points = fieldVerdict l 3 costWidth (Between 0 maxCost) Cost in
+    let train = fieldVerdict l (indexField addTrainAt (trains b)) in
+    let choice = fieldVerdict l (indexField addChoiceAt (size b (addTrain l))) in
+    let points = fieldVerdict l pointsField in
     let f = then-fine train (then choice (then points (endVerdict (bytes l) 6))) e in
     let g = then-fine choice (then points (endVerdict (bytes l) 6)) (f .1) in
     let h = then-fine points (endVerdict (bytes l) 6) (g .1) in
@@ -50,15 +50,11 @@ pub record FineShift (l : List ℕ) (n moves : ℕ) : Type 0 where
 pub shift-fine : (l : List ℕ) (n moves : ℕ) → shiftVerdict l n moves ≡ Fine → FineShift l n moves
 unfolding shiftVerdict
 shift-fine l n moves e =
-    let lifts = runVerdict l liftsAt moveWidth n (Between 0 maxMove) Move in
-    let moved = runVerdict l (movesAt n) moveWidth moves (Around maxMove) Move in
-    let end = endVerdict (bytes l) (movesAt n + moveWidth * moves) in
-    let f = then-fine lifts (then moved end) e in
-    let g = then-fine moved end (f .1) in
+    let f = runs-fine l liftField n (moveField n) moves e in
     record {
-      lift = λ k h. between 0 maxMove moveWidth _ (run-fine l liftsAt moveWidth (Between 0 maxMove) Move n (f .0) k h .right) .1;
-      move = λ k h. leb-true _ _ (run-fine l (movesAt n) moveWidth (Around maxMove) Move moves (g .0) k h .right);
-      ends = sym (end-fine (bytes l) (movesAt n + moveWidth * moves) (g .1));
+      lift = λ k h. between 0 maxMove moveWidth _ (run-fine l liftField n (f .0) k h .right) .1;
+      move = λ k h. leb-true _ _ (run-fine l (moveField n) moves (f .1) k h .right);
+      ends = f .2;
     }
 
 -- ---- 05 certify
@@ -70,15 +66,8 @@ pub record FineCertify (l : List ℕ) (weights : ℕ) : Type 0 where
 pub certify-fine : (l : List ℕ) (weights : ℕ) → certifyVerdict l weights ≡ Fine → FineCertify l weights
 unfolding certifyVerdict
 certify-fine l weights e =
-    let fullWeight = fieldVerdict l 1 weightWidth (Between 1 maxFullWeight) FullWeight in
-    let run = runVerdict l weightsAt weightWidth weights Any Fields in
-    let end = endVerdict (bytes l) (weightsAt + weightWidth * weights) in
-    let f = then-fine fullWeight (then run end) e in
-    let g = then-fine run end (f .1) in
-    record {
-      fullWeight = field-within l 1 weightWidth 1 maxFullWeight FullWeight (f .0) .1;
-      ends = sym (end-fine (bytes l) (weightsAt + weightWidth * weights) (g .1));
-    }
+    let f = runs-fine l fullWeightField 1 weightField weights e in
+    record { fullWeight = between 1 maxFullWeight weightWidth _ (run-fine l fullWeightField 1 (f .0) 0 (omega arith) .right); ends = f .2 }
 
 -- ---- 06 search
 
@@ -89,5 +78,5 @@ pub record FineSearch (l : List ℕ) : Type 0 where
 pub search-fine : (l : List ℕ) → searchVerdict l ≡ Fine → FineSearch l
 unfolding searchVerdict
 search-fine l e =
-    let f = then-fine (fieldVerdict l 1 budgetWidth (Between 1 maxBudget) Budget) (endVerdict (bytes l) 5) e in
+    let f = then-fine (fieldVerdict l budgetField) (endVerdict (bytes l) 5) e in
     record { budget = field-within l 1 budgetWidth 1 maxBudget Budget (f .0) .1; ends = sym (end-fine (bytes l) 5 (f .1)) }

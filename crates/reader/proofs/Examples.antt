@@ -18,7 +18,7 @@ use Rattle.lines.specs.declared.request.Line.{Line}
 use Rattle.lines.specs.declared.request.Line.the-variants.{Asked, Refused}
 use Rattle.lines.specs.Kinds.{newKind}
 use Rattle.lines.specs.Layout.{pairAt}
-use Rattle.lines.specs.Verdicts.{firstOf, fieldVerdict, pairOrdered, pairVerdict, headVerdict, restVerdict, loadVerdict}
+use Rattle.lines.specs.Verdicts.{firstOf, fieldVerdict, runsVerdict, pairOrdered, pairVerdict, headVerdict, restVerdict, loadVerdict}
 use Rattle.lines.specs.Refusals.{refusalNumber}
 use Rattle.reader.specs.Reading.{addVerdict, shiftVerdict, certifyVerdict, searchVerdict, studyLine, kindLine, lineOf}
 
@@ -76,7 +76,7 @@ numberOf (Asked q) = 0
 numberOf (Refused r) = refusalNumber r
 
 pub holds : Case → Bool
-unfolding j put putChoice putEntry numberOf digit byteAt field signed allDigits framed pairAt firstOf fieldVerdict pairOrdered pairVerdict headVerdict restVerdict loadVerdict addVerdict shiftVerdict certifyVerdict searchVerdict newKind studyLine kindLine lineOf fresh isZero pass before figure sum
+unfolding j put putChoice putEntry numberOf digit byteAt field signed allDigits framed pairAt firstOf fieldVerdict runsVerdict pairOrdered pairVerdict headVerdict restVerdict loadVerdict addVerdict shiftVerdict certifyVerdict searchVerdict newKind studyLine kindLine lineOf fresh isZero pass before figure sum
 holds c = eqb (numberOf (lineOf (c .line) (cond (c .loaded) j freshBlock))) (c .number)
 
 pub every : List Case → Bool

@@ -6,32 +6,28 @@ use mathlib.Core.List.{List}
 use Prim.Native.Nat.{ℕ, zero, suc, _+_, _*_, _-_}
 use lib.Dec.{leb, eqb}
 use lib.IntN.{ℤ}
-use Rattle.units.specs.Units.{scaleMin, scaleMax}
-use Rattle.tables.specs.Block.{maxTrains, maxChoices, maxPairs, maxCost, trains, size}
-use Rattle.tables.specs.Ranges.{maxMove, maxFullWeight, maxBudget}
+use Rattle.tables.specs.Block.{trains, size}
 use Rattle.tables.specs.WellFormed.{fresh}
 use Rattle.frames.specs.declared.frame.NewFrame.{NewFrame}
 use Rattle.frames.specs.declared.frame.NewFrame.the-variants.{Within, Long, Broken}
 use Rattle.frames.specs.Frames.{newFrame}
 use Rattle.frames.specs.Digits.{bytes}
-use Rattle.frames.specs.Fields.{field}
 use Rattle.lines.specs.declared.kind.Kind.{Kind}
 use Rattle.lines.specs.declared.kind.Kind.the-variants.{Load, Add, Shift, Tighten, Certify, Search}
 use Rattle.lines.specs.declared.kind.NewKind.{NewKind}
 use Rattle.lines.specs.declared.kind.NewKind.the-variants.{Known, NoSuch}
 use Rattle.lines.specs.declared.refusal.Refusal.{Refusal}
-use Rattle.lines.specs.declared.refusal.Refusal.the-variants.{Fields, Range, Cost, Pair, Absent, Move, FullWeight, Budget}
-use Rattle.lines.specs.declared.request.Rule.{Rule}
-use Rattle.lines.specs.declared.request.Rule.the-variants.{Any, Between, Around}
+use Rattle.lines.specs.declared.refusal.Refusal.the-variants.{Fields, Pair}
+use Rattle.lines.specs.declared.request.Field.{Field}
 use Rattle.lines.specs.declared.request.Verdict.{Verdict}
 use Rattle.lines.specs.declared.request.Verdict.the-variants.{Fine, Declined}
 use Rattle.lines.specs.declared.request.Request.{Request}
 use Rattle.lines.specs.declared.request.Line.{Line}
 use Rattle.lines.specs.declared.request.Line.the-variants.{Asked, Refused}
 use Rattle.lines.specs.Kinds.{newKind, needsStudy}
-use Rattle.lines.specs.Layout.{kindWidth, kindOf, costWidth, moveWidth, weightWidth, addTrain, liftsAt, movesAt, weightsAt, budgetWidth, loadTrains, loadPairs, sizesAt, choicesAt, choiceCount, pairCountAt, entryCount, pairAt}
+use Rattle.lines.specs.Layout.{kindWidth, kindOf, numberIn, further, costField, trainsField, scaleField, sizeField, pairCountField, indexField, addTrainAt, addTrain, addChoiceAt, pointsField, liftField, moveField, fullWeightField, weightField, budgetField, loadTrains, loadPairs, choicesAt, choiceCount, entryCount, pairAt}
 use Rattle.lines.specs.Refusals.{refusalNumber}
-use Rattle.lines.specs.Verdicts.{then, firstOf, unless, obeys, fieldVerdict, runVerdict, endVerdict, pairOrdered, pairVerdict, headVerdict, restVerdict, loadVerdict}
+use Rattle.lines.specs.Verdicts.{then, firstOf, unless, obeys, fieldVerdict, runVerdict, endVerdict, runsVerdict, pairOrdered, pairVerdict, headVerdict, restVerdict, loadVerdict}
 use Rattle.reader.specs.Reading.{addVerdict, moveCount, weightCount, shiftVerdict, certifyVerdict, searchVerdict, concluded, kindVerdict, studyLine, newKindLine, kindLine, framedLine, lineOf}
 
 -- 'Order: 17, 16, .. Then fields .. Then 10, 12 or 14': the numbers that reading a line gives are the others
@@ -68,15 +64,19 @@ reads-first zero f h = record { own = tt }
 reads-first (suc n) f h = reads-then (reads-first n f h) (h n)
 
 module _ (l : List ℕ) where
-  reads-field : (at width : ℕ) (rule : Rule) (r : Refusal) → Own r → Reads (fieldVerdict l at width rule r)
+  reads-field : (f : Field) → Own (f .refusal) → Reads (fieldVerdict l f)
   unfolding fieldVerdict
-  reads-field at width rule r o = reads-then (reads-unless (leb (at + width) (bytes l)) Fields refl) (reads-unless (obeys rule width (field l at width)) r o)
+  reads-field f o = reads-then (reads-unless (leb (f .at + f .width) (bytes l)) Fields refl) (reads-unless (obeys (f .rule) (f .width) (numberIn l f)) (f .refusal) o)
 
-  reads-run : (at width count : ℕ) (rule : Rule) (r : Refusal) → Own r → Reads (runVerdict l at width count rule r)
-  reads-run at width count rule r o = reads-first count (λ k. fieldVerdict l (at + width * k) width rule r) (λ k. reads-field (at + width * k) width rule r o)
+  reads-run : (f : Field) (count : ℕ) → Own (f .refusal) → Reads (runVerdict l f count)
+  reads-run f count o = reads-first count (λ k. fieldVerdict l (further f k)) (λ k. reads-field (further f k) o)
 
   reads-end : (at : ℕ) → Reads (endVerdict (bytes l) at)
   reads-end at = reads-unless (eqb at (bytes l)) Fields refl
+
+  reads-runs : (f : Field) (n : ℕ) (g : Field) (m : ℕ) → Own (f .refusal) → Own (g .refusal) → Reads (runsVerdict l f n g m)
+  unfolding runsVerdict
+  reads-runs f n g m o p = reads-then (reads-run f n o) (reads-then (reads-run g m p) (reads-end (further g m .at)))
 
   -- ---- the kinds
 
@@ -84,38 +84,34 @@ module _ (l : List ℕ) where
   unfolding pairVerdict
   reads-pair k =
       reads-then (reads-unless (leb (pairAt l k + 2) (bytes l)) Fields refl)
-      (reads-then (reads-unless (pairOrdered l k) Pair refl) (reads-run (pairAt l k + 2) costWidth (entryCount l (pairAt l k)) (Between 0 maxCost) Cost refl))
+      (reads-then (reads-unless (pairOrdered l k) Pair refl) (reads-run (costField (pairAt l k + 2)) (entryCount l (pairAt l k)) refl))
 
   reads-load : Reads (loadVerdict l)
   unfolding loadVerdict headVerdict restVerdict
   reads-load =
-      reads-then (reads-then (reads-field 1 1 (Between 1 maxTrains) Range refl) (reads-field 2 2 (Between scaleMin scaleMax) Range refl))
-      (reads-then (reads-run sizesAt 1 (loadTrains l) (Between 1 maxChoices) Range refl)
-      (reads-then (reads-run (choicesAt l) costWidth (choiceCount l) (Between 0 maxCost) Cost refl)
-      (reads-then (reads-field (pairCountAt l) 1 (Between 0 maxPairs) Range refl)
+      reads-then (reads-then (reads-field trainsField refl) (reads-field scaleField refl))
+      (reads-then (reads-run sizeField (loadTrains l) refl)
+      (reads-then (reads-run (costField (choicesAt l)) (choiceCount l) refl)
+      (reads-then (reads-field (pairCountField l) refl)
       (reads-then (reads-first (loadPairs l) (pairVerdict l) reads-pair) (reads-end (pairAt l (loadPairs l)))))))
 
   reads-add : (b : List ℤ) → Reads (addVerdict l b)
   unfolding addVerdict
   reads-add b =
-      reads-then (reads-field 1 1 (Between 0 (trains b - 1)) Absent refl)
-      (reads-then (reads-field 2 1 (Between 0 (size b (addTrain l) - 1)) Absent refl) (reads-then (reads-field 3 costWidth (Between 0 maxCost) Cost refl) (reads-end 6)))
+      reads-then (reads-field (indexField addTrainAt (trains b)) refl)
+      (reads-then (reads-field (indexField addChoiceAt (size b (addTrain l))) refl) (reads-then (reads-field pointsField refl) (reads-end 6)))
 
   reads-shift : (n moves : ℕ) → Reads (shiftVerdict l n moves)
   unfolding shiftVerdict
-  reads-shift n moves =
-      reads-then (reads-run liftsAt moveWidth n (Between 0 maxMove) Move refl)
-      (reads-then (reads-run (movesAt n) moveWidth moves (Around maxMove) Move refl) (reads-end (movesAt n + moveWidth * moves)))
+  reads-shift n moves = reads-runs liftField n (moveField n) moves refl refl
 
   reads-certify : (weights : ℕ) → Reads (certifyVerdict l weights)
   unfolding certifyVerdict
-  reads-certify weights =
-      reads-then (reads-field 1 weightWidth (Between 1 maxFullWeight) FullWeight refl)
-      (reads-then (reads-run weightsAt weightWidth weights Any Fields refl) (reads-end (weightsAt + weightWidth * weights)))
+  reads-certify weights = reads-runs fullWeightField 1 weightField weights refl refl
 
   reads-search : Reads (searchVerdict l)
   unfolding searchVerdict
-  reads-search = reads-then (reads-field 1 budgetWidth (Between 1 maxBudget) Budget refl) (reads-end 5)
+  reads-search = reads-then (reads-field budgetField refl) (reads-end 5)
 
 -- ---- the line
 

@@ -1,32 +1,30 @@
 -- Document 01, 'Lines' and 'What is declined': what a line asks, or the first reason to decline it.
 use mathlib.Core.Bool.{cond, _&&_}
 use mathlib.Core.List.{List}
-use Prim.Native.Nat.{ℕ, _+_, _*_, _-_}
+use Prim.Native.Nat.{ℕ, _+_}
 use lib.IntN.{ℤ}
 use Rattle.units.specs.Units.{thePoints}
-use Rattle.tables.specs.Block.{maxCost, trains, pairs, size}
+use Rattle.tables.specs.Block.{trains, pairs, size}
 use Rattle.tables.specs.Runs.{choicesBefore, entriesBefore, movesBefore}
-use Rattle.tables.specs.Ranges.{maxMove, maxFullWeight, maxBudget}
 use Rattle.tables.specs.WellFormed.{fresh}
 use Rattle.frames.specs.declared.frame.NewFrame.{NewFrame}
 use Rattle.frames.specs.declared.frame.NewFrame.the-variants.{Within, Long, Broken}
 use Rattle.frames.specs.Digits.{bytes}
 use Rattle.frames.specs.Frames.{newFrame}
-use Rattle.lines.specs.declared.refusal.Refusal.the-variants.{Characters, TooLong, NoKind, FreshBlock, Fields, Cost, Absent, Move, FullWeight, Budget}
+use Rattle.lines.specs.declared.refusal.Refusal.the-variants.{Characters, TooLong, NoKind, FreshBlock}
 use Rattle.lines.specs.declared.kind.Kind.{Kind}
 use Rattle.lines.specs.declared.kind.Kind.the-variants as kind
 use Rattle.lines.specs.declared.kind.NewKind.{NewKind}
 use Rattle.lines.specs.declared.kind.NewKind.the-variants.{Known, NoSuch}
 use Rattle.lines.specs.declared.request.Verdict.{Verdict}
 use Rattle.lines.specs.declared.request.Verdict.the-variants.{Fine, Declined}
-use Rattle.lines.specs.declared.request.Rule.the-variants.{Any, Between, Around}
 use Rattle.lines.specs.declared.request.Request.{Request}
 use Rattle.lines.specs.declared.request.Request.the-variants.{Add, Shift, Tighten, Certify, Search}
 use Rattle.lines.specs.declared.request.Line.{Line}
 use Rattle.lines.specs.declared.request.Line.the-variants.{Asked, Refused}
 use Rattle.lines.specs.Kinds.{newKind, needsStudy}
-use Rattle.lines.specs.Layout.{kindWidth, kindOf, costWidth, moveWidth, weightWidth, addTrain, addChoice, addPoints, liftsAt, movesAt, certifyFullWeight, weightsAt, budgetWidth, searchBudget}
-use Rattle.lines.specs.Verdicts.{then, fieldVerdict, runVerdict, endVerdict, run, loadVerdict, loadRequest}
+use Rattle.lines.specs.Layout.{kindWidth, kindOf, indexField, addTrainAt, addTrain, addChoiceAt, addChoice, pointsField, addPoints, liftsAt, movesAt, liftField, moveField, fullWeightField, certifyFullWeight, weightsAt, weightField, budgetField, searchBudget}
+use Rattle.lines.specs.Verdicts.{then, fieldVerdict, endVerdict, runsVerdict, run, loadVerdict, loadRequest}
 
 -- ---- the kinds other than load, on a block that holds a study
 
@@ -37,9 +35,9 @@ bareVerdict l = endVerdict (bytes l) kindWidth
 -- 9: 'train or choice absent'
 unfoldable pub addVerdict : List ℕ → List ℤ → Verdict
 addVerdict l b =
-    then (fieldVerdict l 1 1 (Between 0 (trains b - 1)) Absent)
-    (then (fieldVerdict l 2 1 (Between 0 (size b (addTrain l) - 1)) Absent)
-    (then (fieldVerdict l 3 costWidth (Between 0 maxCost) Cost) (endVerdict (bytes l) 6)))
+    then (fieldVerdict l (indexField addTrainAt (trains b)))
+    (then (fieldVerdict l (indexField addChoiceAt (size b (addTrain l))))
+    (then (fieldVerdict l pointsField) (endVerdict (bytes l) 6)))
 
 abbrev pub addRequest : List ℕ → Request
 addRequest l = Add (record { train = addTrain l; choice = addChoice l; points = thePoints (addPoints l) })
@@ -60,24 +58,20 @@ weightCount b = heldChoices b + heldEntries b
 
 -- n lifts, and so many moves
 unfoldable pub shiftVerdict : List ℕ → ℕ → ℕ → Verdict
-shiftVerdict l n moves =
-    then (runVerdict l liftsAt moveWidth n (Between 0 maxMove) Move)
-    (then (runVerdict l (movesAt n) moveWidth moves (Around maxMove) Move) (endVerdict (bytes l) (movesAt n + moveWidth * moves)))
+shiftVerdict l n moves = runsVerdict l liftField n (moveField n) moves
 
 abbrev pub shiftRequest : ℕ → ℕ → Request
 shiftRequest n moves = Shift (record { lifts = run liftsAt n; moves = run (movesAt n) moves })
 
 -- W, and so many weights
 unfoldable pub certifyVerdict : List ℕ → ℕ → Verdict
-certifyVerdict l weights =
-    then (fieldVerdict l 1 weightWidth (Between 1 maxFullWeight) FullWeight)
-    (then (runVerdict l weightsAt weightWidth weights Any Fields) (endVerdict (bytes l) (weightsAt + weightWidth * weights)))
+certifyVerdict l weights = runsVerdict l fullWeightField 1 weightField weights
 
 abbrev pub certifyRequest : List ℕ → ℕ → Request
 certifyRequest l weights = Certify (record { full = certifyFullWeight l; weights = run weightsAt weights })
 
 unfoldable pub searchVerdict : List ℕ → Verdict
-searchVerdict l = then (fieldVerdict l 1 budgetWidth (Between 1 maxBudget) Budget) (endVerdict (bytes l) 5)
+searchVerdict l = then (fieldVerdict l budgetField) (endVerdict (bytes l) 5)
 
 abbrev pub searchRequest : List ℕ → Request
 searchRequest l = Search (record { budget = searchBudget l })

@@ -1,16 +1,14 @@
 // Document 01, 'Lines' and 'What is declined': from a line and a well-formed block to what the line asks, or the first reason to decline it.
 ghost use mathlib.Core.Path.{_≡_};
 ghost use mathlib.Core.Bool.{true, _&&_};
-ghost use Prim.Native.Nat.{_-_, _<_, _≤_, _^_};
-ghost use Rattle.tables.specs.Block.{maxTrains};
+ghost use Prim.Native.Nat.{_<_, _≤_, _^_};
 ghost use Rattle.tables.specs.WellFormed.{Study, fresh, wellFormed};
 ghost use Rattle.frames.specs.Frames.{Framed};
-ghost use Rattle.lines.specs.declared.refusal.Refusal.the-variants.{Absent};
 ghost use Rattle.lines.specs.declared.kind.Kind.the-variants as kinds;
-ghost use Rattle.lines.specs.declared.request.Rule.the-variants.{Between};
 ghost use Rattle.lines.specs.Kinds.{needsStudy};
+ghost use Rattle.lines.specs.Layout.{indexField};
 ghost use Rattle.lines.specs.Verdicts.{fieldVerdict, loadVerdict, loadRequest};
-ghost use Rattle.reader.specs.Reading.{bareVerdict, addVerdict, shiftVerdict, certifyVerdict, searchVerdict, searchRequest, concluded, fieldsLine, studyLine, kindLine, lineOf};
+ghost use Rattle.reader.specs.Reading.{bareVerdict, addVerdict, searchVerdict, searchRequest, concluded, fieldsLine, studyLine, kindLine, lineOf};
 use frames::fields;
 use frames::frame::Frame;
 use frames::frame::NewFrame;
@@ -20,6 +18,7 @@ use lines::load;
 use lines::refusal::Refusal;
 use lines::request::Add;
 use lines::request::Certify;
+use lines::request::Field;
 use lines::request::Line;
 use lines::request::Load;
 use lines::request::Request;
@@ -120,15 +119,17 @@ fn read_load(line: &[u8], bytes: usize) -> Line
 // A train or a choice, of which there are `count`.
 fn index_verdict(line: &[u8], bytes: usize, at: usize, count: usize) -> Verdict
     requires { ⌜ Framed (now line) bytes × (at < 2 ^ 40) × (1 ≤ count) ⌝ }
-    ensures { λ r. ⌜ r ≡ fieldVerdict (now (line .entry)) at 1 (Between 0 (count - 1)) Absent ⌝ }
+    ensures { λ r. ⌜ r ≡ fieldVerdict (now (line .entry)) (indexField at count) ⌝ }
 {
     verdict::field_verdict(
         line,
         bytes,
-        at,
-        1,
-        Rule::Between(0, (count - 1) as u64),
-        Refusal::Absent,
+        Field {
+            at,
+            width: 1,
+            rule: Rule::Between(0, (count - 1) as u64),
+            refusal: Refusal::Absent,
+        },
     )
 }
 
@@ -149,10 +150,12 @@ fn add_verdict(line: &[u8], bytes: usize, block: &[i64]) -> Verdict
     let points = verdict::field_verdict(
         line,
         bytes,
-        3,
-        Load::COST_WIDTH,
-        Rule::cost(),
-        Refusal::Cost,
+        Field {
+            at: 3,
+            width: Load::COST_WIDTH,
+            rule: Rule::cost(),
+            refusal: Refusal::Cost,
+        },
     );
     if !points.is_fine() {
         return points;
@@ -175,39 +178,6 @@ fn read_add(line: &[u8], bytes: usize, block: &[i64]) -> Line
     }
 }
 
-// Lifts and moves.
-fn shift_verdict(line: &[u8], bytes: usize, n: usize, moves: usize) -> Verdict
-    requires { ⌜ Framed (now line) bytes × (n ≤ maxTrains) × (moves < 2 ^ 32) ⌝ }
-    ensures { λ r. ⌜ r ≡ shiftVerdict (now (line .entry)) n moves ⌝ }
-{
-    let lifts = verdict::run_verdict(
-        line,
-        bytes,
-        Shift::LIFTS_AT,
-        Shift::MOVE_WIDTH,
-        n,
-        Rule::Between(0, Shift::MOVE),
-        Refusal::Move,
-    );
-    if !lifts.is_fine() {
-        return lifts;
-    }
-    let at = Shift::LIFTS_AT + Shift::MOVE_WIDTH * n;
-    let moved = verdict::run_verdict(
-        line,
-        bytes,
-        at,
-        Shift::MOVE_WIDTH,
-        moves,
-        Rule::Around(Shift::MOVE),
-        Refusal::Move,
-    );
-    if !moved.is_fine() {
-        return moved;
-    }
-    verdict::end_verdict(bytes, at + Shift::MOVE_WIDTH * moves)
-}
-
 // A shift.
 fn read_shift(line: &[u8], bytes: usize, block: &[i64]) -> Line
     requires { ⌜ Framed (now line) bytes × Study (now block) ⌝ }
@@ -215,49 +185,28 @@ fn read_shift(line: &[u8], bytes: usize, block: &[i64]) -> Line
 {
     let n = block::trains(block);
     let count = counts::pair_fields(block).moves;
+    let at = Shift::LIFTS_AT + Shift::MOVE_WIDTH * n;
     let lifts = Run {
         at: Shift::LIFTS_AT,
         count: n,
     };
-    let moves = Run {
-        at: Shift::LIFTS_AT + Shift::MOVE_WIDTH * n,
-        count,
+    let moves = Run { at, count };
+    let lift = Field {
+        at: Shift::LIFTS_AT,
+        width: Shift::MOVE_WIDTH,
+        rule: Rule::Between(0, Shift::MOVE),
+        refusal: Refusal::Move,
     };
-    match shift_verdict(line, bytes, n, count) {
+    let moved = Field {
+        at,
+        width: Shift::MOVE_WIDTH,
+        rule: Rule::Around(Shift::MOVE),
+        refusal: Refusal::Move,
+    };
+    match verdict::runs_verdict(line, bytes, lift, n, moved, count) {
         Verdict::Declined(r) => Line::Refused(r),
         Verdict::Fine => Line::Asked(Request::Shift(Shift { lifts, moves })),
     }
-}
-
-// W and the weights.
-fn certify_verdict(line: &[u8], bytes: usize, count: usize) -> Verdict
-    requires { ⌜ Framed (now line) bytes × (count < 2 ^ 32) ⌝ }
-    ensures { λ r. ⌜ r ≡ certifyVerdict (now (line .entry)) count ⌝ }
-{
-    let full = verdict::field_verdict(
-        line,
-        bytes,
-        1,
-        Certify::WEIGHT_WIDTH,
-        Rule::Between(1, Certify::FULL_WEIGHT),
-        Refusal::FullWeight,
-    );
-    if !full.is_fine() {
-        return full;
-    }
-    let weights = verdict::run_verdict(
-        line,
-        bytes,
-        Certify::WEIGHTS_AT,
-        Certify::WEIGHT_WIDTH,
-        count,
-        Rule::Any,
-        Refusal::Fields,
-    );
-    if !weights.is_fine() {
-        return weights;
-    }
-    verdict::end_verdict(bytes, Certify::WEIGHTS_AT + Certify::WEIGHT_WIDTH * count)
 }
 
 // A certificate.
@@ -266,7 +215,19 @@ fn read_certify(line: &[u8], bytes: usize, block: &[i64]) -> Line
     ensures { λ r. ⌜ r ≡ fieldsLine kinds.Certify (now (line .entry)) (now (block .entry)) ⌝ }
 {
     let count = counts::choice_count(block) + counts::pair_fields(block).weights;
-    match certify_verdict(line, bytes, count) {
+    let full = Field {
+        at: 1,
+        width: Certify::WEIGHT_WIDTH,
+        rule: Rule::Between(1, Certify::FULL_WEIGHT),
+        refusal: Refusal::FullWeight,
+    };
+    let weight = Field {
+        at: Certify::WEIGHTS_AT,
+        width: Certify::WEIGHT_WIDTH,
+        rule: Rule::Any,
+        refusal: Refusal::Fields,
+    };
+    match verdict::runs_verdict(line, bytes, full, 1, weight, count) {
         Verdict::Declined(r) => Line::Refused(r),
         Verdict::Fine => Line::Asked(Request::Certify(Certify {
             full: fields::field(line, 1, Certify::WEIGHT_WIDTH),
@@ -286,10 +247,12 @@ fn search_verdict(line: &[u8], bytes: usize) -> Verdict
     let budget = verdict::field_verdict(
         line,
         bytes,
-        1,
-        Search::BUDGET_WIDTH,
-        Rule::Between(1, Search::BUDGET),
-        Refusal::Budget,
+        Field {
+            at: 1,
+            width: Search::BUDGET_WIDTH,
+            rule: Rule::Between(1, Search::BUDGET),
+            refusal: Refusal::Budget,
+        },
     );
     if !budget.is_fine() {
         return budget;

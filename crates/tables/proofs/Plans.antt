@@ -1,15 +1,14 @@
 -- The shape of a study, and totals by it.
-use mathlib.Core.Path.{_≡_, ap}
+use mathlib.Core.Path.{_≡_, sym, ap, ap₂, _∙_}
 use mathlib.Core.List.{List}
 use Prim.Native.Nat.{ℕ, _+_, _<_, _≤_}
 use native.Mathlib.Omega.{arith}
 use lib.IntN.{ℤ}
 use Rattle.tables.specs.Sum.{sum}
-use Rattle.tables.specs.Block.{trains, pairs, size, first, second}
 use Rattle.tables.specs.WellFormed.{Study}
-use Rattle.tables.specs.Plans.{Shape, Costs, IsPlan, choiceTotal, pairTotal, total, shapeOf}
+use Rattle.tables.specs.Plans.{Shape, AlikeShapes, Costs, IsPlan, choiceTotal, pairTotal, total, shapeOf}
 use Rattle.tables.proofs.Sum.{sum-cong, sum-term}
-use Rattle.tables.proofs.Study.{pairs-range, size-range, first-below-second, second-below-trains, pairs-apart, SameShape, same-trains, same-pairs, same-first, same-second}
+use Rattle.tables.proofs.Study.{trains-range, pairs-range, size-range, first-below-second, second-below-trains, pairs-apart, SameShape, same-trains, same-pairs, same-size, same-first, same-second}
 
 -- each train has a choice; a pair's trains ascend and are there; no two pairs are alike
 pub record Shaped (s : Shape) : Type 0 where
@@ -61,18 +60,63 @@ pub pair-at-most-total : (s : Shape) (t : Costs) (x : ℕ → ℕ) (k : ℕ) →
 unfolding total pairTotal
 pair-at-most-total s t x k h = omega (arith, sum-term (s .pairs) k (λ l. t .pair l (x (s .first l)) (x (s .second l))) h)
 
+-- ---- shapes that agree where they are used
+
+pub alike-back : {s u : Shape} → AlikeShapes s u → AlikeShapes u s
+alike-back {s} {u} e =
+    record {
+      trains-same = sym (e .trains-same);
+      sizes-same = λ i h. sym (e .sizes-same i (omega (arith, e .trains-same)));
+      pairs-same = sym (e .pairs-same);
+      firsts-same = λ k h. sym (e .firsts-same k (omega (arith, e .pairs-same)));
+      seconds-same = λ k h. sym (e .seconds-same k (omega (arith, e .pairs-same)));
+    }
+
+pub alike-then : {s u v : Shape} → AlikeShapes s u → AlikeShapes u v → AlikeShapes s v
+alike-then {s} {u} {v} e f =
+    record {
+      trains-same = e .trains-same ∙ f .trains-same;
+      sizes-same = λ i h. e .sizes-same i h ∙ f .sizes-same i (omega (arith, e .trains-same));
+      pairs-same = e .pairs-same ∙ f .pairs-same;
+      firsts-same = λ k h. e .firsts-same k h ∙ f .firsts-same k (omega (arith, e .pairs-same));
+      seconds-same = λ k h. e .seconds-same k h ∙ f .seconds-same k (omega (arith, e .pairs-same));
+    }
+
+-- they have the same plans, with the same totals
+pub alike-plan : {s u : Shape} → AlikeShapes s u → (x : ℕ → ℕ) → IsPlan u x → IsPlan s x
+unfolding IsPlan
+alike-plan {s} {u} e x p i h = omega (arith, p i (omega (arith, e .trains-same)), e .sizes-same i h)
+
+pub alike-total : {s u : Shape} → AlikeShapes s u → (t : Costs) (x : ℕ → ℕ) → total s t x ≡ total u t x
+unfolding total choiceTotal pairTotal
+alike-total {s} {u} e t x =
+    omega (
+      arith,
+      ap (λ (n : ℕ). sum n (λ i. t .choice i (x i))) (e .trains-same),
+      ap (λ (m : ℕ). sum m (λ k. t .pair k (x (u .first k)) (x (u .second k)))) (e .pairs-same),
+      sum-cong (s .pairs) (λ k. t .pair k (x (s .first k)) (x (s .second k))) (λ k. t .pair k (x (u .first k)) (x (u .second k)))
+          (λ k h. ap₂ (λ (i j : ℕ). t .pair k (x i) (x j)) (e .firsts-same k h) (e .seconds-same k h)),
+    )
+
+-- and the trains of their pairs are there alike
+pub alike-inside : {s u : Shape} → AlikeShapes s u → Shaped s → (k : ℕ) → k < u .pairs → (u .first k < s .trains) × (u .second k < s .trains)
+alike-inside {s} {u} e sh k h =
+    let q : k < s .pairs = omega (arith, e .pairs-same) in
+    (omega (arith, e .firsts-same k q, sh .ascends k q, sh .inside k q), omega (arith, e .seconds-same k q, sh .inside k q))
+
 -- ---- blocks of the same shape
 
 module _ {b c : List ℤ} (e : SameShape b c) (s : Study b) where
+  pub same-shape-alike : AlikeShapes (shapeOf c) (shapeOf b)
+  unfolding shapeOf
+  same-shape-alike =
+      record {
+        trains-same = same-trains e;
+        sizes-same = λ i h. same-size e i (omega (arith, same-trains e, trains-range s));
+        pairs-same = same-pairs e;
+        firsts-same = λ k h. same-first e k (omega (arith, same-pairs e, pairs-range s));
+        seconds-same = λ k h. same-second e k (omega (arith, same-pairs e, pairs-range s));
+      }
+
   pub same-shape-total : (t : Costs) (x : ℕ → ℕ) → total (shapeOf c) t x ≡ total (shapeOf b) t x
-  unfolding total choiceTotal pairTotal shapeOf
-  same-shape-total t x =
-      omega (
-        arith,
-        ap (λ (n : ℕ). sum n (λ i. t .choice i (x i))) (same-trains e),
-        ap (λ (m : ℕ). sum m (λ k. t .pair k (x (first c k)) (x (second c k)))) (same-pairs e),
-        sum-cong (pairs b) (λ k. t .pair k (x (first c k)) (x (second c k))) (λ k. t .pair k (x (first b k)) (x (second b k))) at-pair,
-      )
-    where
-      at-pair : (k : ℕ) → k < pairs b → t .pair k (x (first c k)) (x (second c k)) ≡ t .pair k (x (first b k)) (x (second b k))
-      at-pair k h = rw (same-first e k (omega (arith, pairs-range s)), same-second e k (omega (arith, pairs-range s)))
+  same-shape-total t x = alike-total same-shape-alike t x

@@ -1,4 +1,5 @@
 -- Document 01, 'Problem and units': the shape of a problem, its costs, its plans and their totals, above the places of the block.
+use mathlib.Core.Path.{_≡_}
 use mathlib.Core.List.{List}
 use Prim.Native.Nat.{ℕ, _+_, _<_}
 use lib.IntN.{ℤ}
@@ -12,6 +13,14 @@ pub record Shape : Type 0 where
   pub pairs : ℕ
   pub first : ℕ → ℕ
   pub second : ℕ → ℕ
+
+-- two shapes agree where they are used: their trains with the sizes, and their pairs
+pub record AlikeShapes (s u : Shape) : Type 0 where
+  pub trains-same : s .trains ≡ u .trains
+  pub sizes-same : (i : ℕ) → i < s .trains → s .size i ≡ u .size i
+  pub pairs-same : s .pairs ≡ u .pairs
+  pub firsts-same : (k : ℕ) → k < s .pairs → s .first k ≡ u .first k
+  pub seconds-same : (k : ℕ) → k < s .pairs → s .second k ≡ u .second k
 
 -- 'a cost c_i(a) for each choice, c_ij(a,b) for each pair's two choices, and a constant c0'
 pub record Costs : Type 0 where

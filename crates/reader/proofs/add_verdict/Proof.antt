@@ -1,14 +1,12 @@
 -- The train, the choice and the points are judged in the line's order, then the end. A study has a train, and each train a choice.
 use borrow.Author.Needs.{needs}
 use mathlib.Core.Path.{_≡_}
-use Prim.Native.Nat.{_-_}
 use native.Mathlib.Omega.{arith}
 use Rattle.tables.specs.Block.{trains, size}
 use Rattle.tables.proofs.Study.{trains-range, size-range}
 use Rattle.lines.specs.declared.refusal.Refusal.the-variants.{Absent}
-use Rattle.lines.specs.declared.request.Rule.the-variants.{Between}
 use Rattle.lines.specs.declared.request.Verdict.the-variants.{Fine}
-use Rattle.lines.specs.Layout.{addTrain}
+use Rattle.lines.specs.Layout.{indexField, addTrainAt, addTrain, addChoiceAt}
 use Rattle.lines.specs.Verdicts.{fieldVerdict}
 use Rattle.lines.proofs.Judged.{went-on, declined, field-within}
 use Rattle.reader.specs.Reading.{addVerdict}
@@ -29,22 +27,22 @@ unfolding addVerdict
 returns c = let v = c .before .before in rw (← v .before .trains .ensures) (declined (v .index-verdict .result) _ _ (c .before .is-fine .ensures) (v .index-verdict .ensures) (c .if1 .taken))
 
 train : (c : tie.Else1)
-    → fieldVerdict (c .before .before .before .before .before .args .line .now) 1 1 (Between 0 (trains (c .before .before .before .before .before .args .block .now) - 1)) Absent ≡ Fine
+    → fieldVerdict (c .before .before .before .before .before .args .line .now) (indexField addTrainAt (trains (c .before .before .before .before .before .args .block .now))) ≡ Fine
 train c = let v = c .before .before in rw (← v .before .trains .ensures) (went-on (v .index-verdict .result) _ (c .before .is-fine .ensures) (v .index-verdict .ensures) (c .if1 .left))
 
 field-requires : tie.Need-field-requires
-field-requires c κs = omega (arith, field-within _ _ 1 0 _ Absent (train c))
+field-requires c κs = omega (arith, field-within _ 1 1 0 _ Absent (train c))
 
 size-requires : tie.Need-size-requires
 size-requires c κs =
     let s = c .before .before .before .before .before .before in
-    (s .pre .1 .whole, omega (arith, c .field .ensures, field-within _ _ 1 0 _ Absent (train (c .before)), trains-range (s .pre .1)))
+    (s .pre .1 .whole, omega (arith, c .field .ensures, field-within _ 1 1 0 _ Absent (train (c .before)), trains-range (s .pre .1)))
 
 index-verdict-requires-2 : tie.Need-index-verdict-requires-2
 index-verdict-requires-2 c κs =
     let f = c .before in
     let s = f .before .before .before .before .before .before in
-    (s .pre .0, omega arith, omega (arith, c .size .ensures, size-range (s .pre .1) (f .field .result) (omega (arith, f .field .ensures, field-within _ _ 1 0 _ Absent (train (f .before)), trains-range (s .pre .1)))))
+    (s .pre .0, omega arith, omega (arith, c .size .ensures, size-range (s .pre .1) (f .field .result) (omega (arith, f .field .ensures, field-within _ 1 1 0 _ Absent (train (f .before)), trains-range (s .pre .1)))))
 
 is-fine-requires-2 : tie.Need-is-fine-requires-2
 is-fine-requires-2 c κs = search needs
@@ -66,8 +64,8 @@ is-fine-requires-3 : tie.Need-is-fine-requires-3
 is-fine-requires-3 c κs = search needs
 
 choice : (c : tie.Else2)
-    → fieldVerdict (c .before .before .before .before .before .before .before .before .before .before .args .line .now) 2 1
-    (Between 0 (size (c .before .before .before .before .before .before .before .before .before .before .args .block .now) (addTrain (c .before .before .before .before .before .before .before .before .before .before .args .line .now)) - 1)) Absent ≡ Fine
+    → fieldVerdict (c .before .before .before .before .before .before .before .before .before .before .args .line .now)
+    (indexField addChoiceAt (size (c .before .before .before .before .before .before .before .before .before .before .args .block .now) (addTrain (c .before .before .before .before .before .before .before .before .before .before .args .line .now)))) ≡ Fine
 choice c =
     let v = c .before .before in
     rw (← v .before .before .field .ensures, ← v .before .size .ensures) (went-on (v .index-verdict2 .result) _ (c .before .is-fine2 .ensures) (v .index-verdict2 .ensures) (c .if2 .left))

@@ -21,7 +21,7 @@ field-requires c κs = search needs
 obeys-requires : tie.Need-obeys-requires
 obeys-requires c κs =
     let s = c .before .before .before in
-    let b = field-below (framed-whole (s .args .line .now) (s .pre .0 .digits)) (s .args .at) (s .args .width) (omega arith) in
+    let b = field-below (framed-whole (s .args .line .now) (s .pre .0 .digits)) (s .args .f .at) (s .args .f .width) (omega arith) in
     (omega arith, omega (arith, b, c .field .ensures))
 
 returns-2 : tie.Need-returns-2
