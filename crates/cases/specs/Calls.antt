@@ -7,8 +7,9 @@ use Prim.Native.String.{String}
 use lib.IntN.{ℤ}
 use lib.ListN.{length}
 use Rattle.tables.specs.WellFormed.{wellFormed}
-use Rattle.replies.specs.Wrote.{minBuffer, written}
-use Rattle.service.specs.Answer.{Answer, answer}
+use Rattle.replies.specs.Wrote.{written}
+use Rattle.requests.specs.Answer.{Answer}
+use Rattle.service.specs.Answer.{minBuffer, answer}
 use Rattle.cases.specs.Written.{text, zeros, marks, Written, laid}
 
 -- ---- rows

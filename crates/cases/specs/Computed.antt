@@ -31,8 +31,8 @@ use Rattle.search.specs.Walk.{partialTotal, oneTry, triedFrom, openedTrain, wal
 use Rattle.search.specs.Walk as walk
 use Rattle.search.specs.Answer.{searchAnswer}
 use Rattle.replies.specs.Replies.{refusalReply, boundReply, certifyReply, planDigits, searchReply}
-use Rattle.replies.specs.Wrote.{minBuffer}
-use Rattle.service.specs.Answer.{Answer, answered, requested, lineAnswer}
+use Rattle.requests.specs.Answer.{Answer, answered, requested, lineAnswer}
+use Rattle.service.specs.Answer.{minBuffer}
 use Rattle.cases.specs.Written.{text, zeros, marks, places, rows, grids, laid}
 use Rattle.cases.specs.Calls.{Block, held, Row, call, row, declined, declinedLong, silent, Left, leftBy, said}
 
@@ -40,7 +40,7 @@ use Rattle.cases.specs.Calls.{Block, held, Row, call, row, declined, dec
 unfoldable pub answerOn : List ℕ → Block → List ℕ → Answer
 answerOn l b buffer =
     cond (ltb (length buffer) minBuffer) (answered (b .numbers) [])
-    (cond (b .formed) (lineAnswer (lineOf l (b .numbers)) l (b .numbers)) (answered (b .numbers) (refusalReply Malformed)))
+    (cond (b .formed) (lineAnswer l (b .numbers) (length buffer)) (answered (b .numbers) (refusalReply Malformed)))
 
 -- what each call leaves. Whoever opens this name opens the definitions of rows and blocks, and, crate by crate, those on the answer's way
 unfoldable pub computed : List Row → List Left
@@ -55,6 +55,6 @@ unfolding text zeros marks places rows grids laid held call row declined decline
     addVerdict shiftVerdict certifyVerdict searchVerdict studyLine kindLine lineOf
     walk.added partialTotal oneTry triedFrom openedTrain walked searched searchAnswer
     refusalReply boundReply certifyReply planDigits searchReply
-    requested
+    requested lineAnswer
 computed [] = []
 computed (r ∷ rs) = leftBy (answerOn (r .line) (r .on) (marks (r .room))) (r .room) ∷ computed rs

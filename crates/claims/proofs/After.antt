@@ -4,9 +4,10 @@ use mathlib.Core.Path.{_≡_, refl, sym, subst}
 use mathlib.Core.Bool.{Bool, true, false, cond, _&&_}
 use mathlib.Core.List.{List, [], _∷_, _++_}
 use mathlib.Core.Logic.{_⊎_, inl, inr}
-use Prim.Native.Nat.{ℕ}
+use Prim.Native.Nat.{ℕ, _≤_}
 use lib.Dec.{eqb}
 use lib.IntN.{ℤ}
+use lib.ListN.{length}
 use Rattle.tables.specs.Range.{pass}
 use Rattle.tables.specs.WellFormed.{isZero, fresh, wellFormed, freshBlock}
 use Rattle.tables.proofs.Range.{not-both, both-true}
@@ -17,15 +18,18 @@ use Rattle.lines.specs.Kinds.{kindNumber, requestKind}
 use Rattle.lines.specs.Layout.{kindOf}
 use Rattle.reader.proofs.LineAccepted.{Makes, line-makes}
 use Rattle.reader.proofs.LineKind.{line-kind}
-use Rattle.service.specs.Answer.{Answer, requested, answer}
+use Rattle.replies.specs.Wrote.{longestFixed}
+use Rattle.requests.specs.Answer.{Answer, requested, lineAnswer}
+use Rattle.requests.proofs.LineCases.{line-cases}
+use Rattle.service.specs.Answer.{answer}
 use Rattle.service.specs.Calls.{Call, Exchange, exchange, lastBlock, blocks, exchanges}
-use Rattle.service.proofs.AnswerCases.{answer-cases}
+use Rattle.service.proofs.AnswerCases.{fixed-fit, answer-cases}
 use Rattle.service.proofs.Lists.{nextAnswer, exchanges-more}
 use Rattle.claims.specs.Ledger.{Ledger, accepted, fed, ledgerOf, emptyLedger, hasLoad}
 use Rattle.claims.specs.Claims.{AtCall, EachCall}
 use Rattle.claims.proofs.Keeps.{Keeps}
 use Rattle.claims.proofs.ReadBack.{empty-refused, refusal-refused}
-use Rattle.claims.proofs.Steps.{fed-refused, Good, line-allowed, declined-call, empty-call, good-load, good-call}
+use Rattle.claims.proofs.Steps.{fed-refused, Good, line-allowed, declined-call, empty-call, good-load, good-line, good-call}
 
 fresh-is : fresh freshBlock ≡ true
 unfolding fresh pass isZero
@@ -69,13 +73,23 @@ module _ (g : Ledger) (l : List ℕ) where
   new-request (Certify q) m e = absurd (not-both fresh-is (m .2))
   new-request (Search q) m e = absurd (not-both fresh-is (m .2))
 
+  line-new : (room : ℕ) → longestFixed ≤ room → Called g freshBlock l (lineAnswer l freshBlock room)
+  line-new room h =
+      line-cases l freshBlock room h right-fresh (Called g freshBlock l)
+      (λ r e. called-quiet _ (refusal-refused r) (declined-call g freshBlock l r (line-allowed l freshBlock r e)))
+      (λ q a. called-good (new-request q (line-makes l freshBlock q (a .asked) .1) (line-kind l freshBlock q (a .asked))))
+
   called-new : (buffer : List ℕ) → Called g freshBlock l (answer l freshBlock buffer)
   called-new buffer =
       answer-cases l freshBlock buffer (Called g freshBlock l)
       (λ h. called-quiet [] empty-refused (empty-call g freshBlock l))
       (λ e. absurd (not-both right-fresh e))
-      (λ r e. called-quiet _ (refusal-refused r) (declined-call g freshBlock l r (line-allowed l freshBlock r e)))
-      (λ q a. called-good (new-request q (line-makes l freshBlock q (a .asked) .1) (line-kind l freshBlock q (a .asked))))
+      (λ h e. line-new (length buffer) (fixed-fit buffer h))
+
+-- a line, where there is room for every fixed reply, and a call
+pub called-line : {g : Ledger} {b : List ℤ} → State g b → (l : List ℕ) (room : ℕ) → longestFixed ≤ room → Called g b l (lineAnswer l b room)
+called-line {g} (inl e) l room h = rw e (line-new g l room h)
+called-line (inr k) l room h = called-good (good-line k l room h)
 
 pub called : {g : Ledger} {b : List ℤ} → State g b → (l buffer : List ℕ) → Called g b l (answer l b buffer)
 called {g} (inl e) l buffer = rw e (called-new g l buffer)

@@ -3,10 +3,12 @@ use mathlib.Core.Path.{_≡_, refl}
 use mathlib.Core.Bool.{true, false}
 use mathlib.Core.List.{List, []}
 use mathlib.Core.Logic.{_⊎_, inl, inr}
-use Prim.Native.Nat.{ℕ, _<_}
+use Prim.Native.Nat.{ℕ, _<_, _≤_}
 use native.Mathlib.Omega.{arith}
 use lib.IntN.{ℤ}
+use lib.ListN.{length}
 use Rattle.tables.specs.Block.{trains}
+use Rattle.tables.specs.WellFormed.{wellFormed}
 use Rattle.tables.proofs.Range.{not-both}
 use Rattle.operations.specs.declared.outcome.Outcome.{Outcome}
 use Rattle.operations.specs.declared.outcome.Outcome.the-variants.{Done, CostAbove as cost-above, PartsOutside as parts-outside}
@@ -26,8 +28,11 @@ use Rattle.lines.specs.Layout.{moveWidth, weightWidth}
 use Rattle.lines.specs.Numbers.{numbersOf}
 use Rattle.search.specs.Answer.{searchAnswer}
 use Rattle.replies.specs.Replies.{refusalReply}
-use Rattle.service.specs.Answer.{Answer, declined, operated, certified, requested, answer}
-use Rattle.service.proofs.AnswerCases.{answer-cases}
+use Rattle.replies.specs.Wrote.{longestFixed}
+use Rattle.requests.specs.Answer.{Answer, declined, operated, certified, requested, lineAnswer}
+use Rattle.requests.proofs.LineCases.{line-cases}
+use Rattle.service.specs.Answer.{answer}
+use Rattle.service.proofs.AnswerCases.{fixed-fit, answer-cases}
 use Rattle.claims.specs.Ledger.{accepted}
 use Rattle.claims.proofs.ReadBack.{bound-accepted, certify-accepted, search-accepted}
 
@@ -69,14 +74,21 @@ module _ (l : List ℕ) (b : List ℤ) where
   either-requested (Certify q) = either-certified (q .full) (certificate b (weightsOf b (q .full) (runOf l (q .weights .at) weightWidth (q .weights .count)))) b
   either-requested (Search q) = inl (search-accepted (trains b) (searchAnswer b (q .budget)))
 
+  either-line : (room : ℕ) → longestFixed ≤ room → wellFormed b ≡ true → Either b (lineAnswer l b room)
+  either-line room h right = line-cases l b room h right (λ a. Either b a) (λ r e. either-declined b r) (λ q a. either-requested q)
+
   either-answer : (buffer : List ℕ) → Either b (answer l b buffer)
   either-answer buffer =
-      answer-cases l b buffer (λ a. Either b a) (λ h. inr (record { block = refl; reply = inl refl })) (λ e. either-declined b Malformed) (λ r e. either-declined b r) (λ q a. either-requested q)
+      answer-cases l b buffer (λ a. Either b a) (λ h. inr (record { block = refl; reply = inl refl })) (λ e. either-declined b Malformed) (λ h. either-line (length buffer) (fixed-fit buffer h))
 
-  -- a call that is not accepted leaves the block as it was, and writes nothing but its two bytes
+  -- what is not accepted leaves the block as it was, and writes nothing but its two bytes
+  leaves : (a : Answer) → Either b a → accepted (a .reply) ≡ false → Declines b a
+  leaves a (inl y) e = absurd (not-both y e)
+  leaves a (inr d) e = d
+
+  -- so does a line, where there is room for every fixed reply, and so does a call
+  pub declined-line-leaves : (room : ℕ) → longestFixed ≤ room → wellFormed b ≡ true → accepted (lineAnswer l b room .reply) ≡ false → Declines b (lineAnswer l b room)
+  declined-line-leaves room h right = leaves (lineAnswer l b room) (either-line room h right)
+
   pub declined-leaves : (buffer : List ℕ) → accepted (answer l b buffer .reply) ≡ false → Declines b (answer l b buffer)
-  declined-leaves buffer e = go (either-answer buffer)
-    where
-      go : Either b (answer l b buffer) → Declines b (answer l b buffer)
-      go (inl a) = absurd (not-both a e)
-      go (inr d) = d
+  declined-leaves buffer = leaves (answer l b buffer) (either-answer buffer)

@@ -4,8 +4,8 @@ use mathlib.Core.List.{List, [], _∷_}
 use lib.IntN.{ℤ}
 use Rattle.tables.specs.WellFormed.{freshBlock}
 use Rattle.replies.proofs.Writing.{wrote-taken}
+use Rattle.requests.specs.Wrote.{Answers}
 use Rattle.service.specs.Answer.{answer}
-use Rattle.service.specs.Wrote.{Answers}
 use Rattle.service.specs.Calls.{Call, lastBlock, blocks, exchanges}
 use Rattle.claims.specs.Seen.{Seen, Chained, seenBlocks, seenExchanges, seenLast, SeenDemand}
 use Rattle.claims.proofs.Demand.{demand}

@@ -4,11 +4,10 @@ use mathlib.Core.Path.{_≡_, refl, ap, _∙_}
 use mathlib.Core.Bool.{Bool, true, false, cond}
 use mathlib.Core.List.{List}
 use mathlib.Core.Logic.{_↔_}
-use Prim.Native.Nat.{ℕ, _<_}
+use Prim.Native.Nat.{ℕ, _<_, _≤_}
 use native.Mathlib.Omega.{arith}
 use lib.IntN.{ℤ, pos}
 use lib.ListN.{length}
-use borrow.Author.Tests.{le-ltb}
 use Rattle.tables.specs.Block.{constantPlace, heldChoicePlace, heldEntryPlace, at, trains, pairs, size, first, second}
 use Rattle.tables.specs.WellFormed.{holdsStudy, Study}
 use Rattle.tables.proofs.Range.{not-both}
@@ -31,10 +30,12 @@ use Rattle.reader.specs.Reading.{moveCount}
 use Rattle.reader.proofs.LineAccepted.{Makes, line-makes}
 use Rattle.reader.proofs.LineKind.{line-kind}
 use Rattle.replies.specs.Replies.{refusalReply}
-use Rattle.replies.specs.Wrote.{minBuffer}
-use Rattle.service.specs.Answer.{operated, requested, answer}
-use Rattle.service.specs.Wrote.{Asks}
-use Rattle.service.proofs.AnswerCases.{answer-cases}
+use Rattle.requests.specs.Answer.{operated, requested}
+use Rattle.requests.specs.Wrote.{Asks}
+use Rattle.requests.proofs.LineCases.{asked-line, line-cases}
+use Rattle.service.specs.Answer.{minBuffer, answer}
+use Rattle.service.proofs.AnswerCases.{fixed-fit, answer-cases}
+use Rattle.service.proofs.Calls.{answered-line}
 use Rattle.claims.specs.Ledger.{accepted}
 use Rattle.claims.proofs.ReadBack.{empty-refused, refusal-refused, bound-accepted}
 
@@ -45,8 +46,9 @@ lineEnds l b = shiftEnds (shiftLift l) (shiftMove l (trains b)) b
 -- ---- a line that makes a request
 
 pub record Asking (l : List ℕ) (b : List ℤ) (buffer : List ℕ) : Type 0 where
+  pub large : minBuffer ≤ length buffer
   pub request : Request
-  pub asks : Asks l b request buffer
+  pub asks : Asks l b request (length buffer)
 
 -- an accepted line makes one
 pub accepted-asks : (l : List ℕ) (b : List ℤ) (buffer : List ℕ) → accepted (answer l b buffer .reply) ≡ true → Asking l b buffer
@@ -54,12 +56,13 @@ accepted-asks l b buffer =
     answer-cases l b buffer (λ a. accepted (a .reply) ≡ true → Asking l b buffer)
     (λ h y. absurd (not-both y empty-refused))
     (λ e y. absurd (not-both y (refusal-refused Malformed)))
+    (λ h e. line-cases l b (length buffer) (fixed-fit buffer h) e (λ a. accepted (a .reply) ≡ true → Asking l b buffer)
     (λ r e y. absurd (not-both y (refusal-refused r)))
-    (λ q a y. record { request = q; asks = a })
+    (λ q a y. record { large = h; request = q; asks = a }))
 
 -- ---- a line that asks for a shift
 
-module _ (l : List ℕ) (b : List ℤ) (buffer : List ℕ) (q : declared-shift.Shift) (a : Asks l b (Shift q) buffer) where
+module _ (l : List ℕ) (b : List ℤ) (buffer : List ℕ) (h : minBuffer ≤ length buffer) (q : declared-shift.Shift) (a : Asks l b (Shift q) (length buffer)) where
   abbrev lifts : List ℤ
   lifts = signedRunOf l liftsAt moveWidth (trains b)
 
@@ -73,8 +76,11 @@ module _ (l : List ℕ) (b : List ℤ) (buffer : List ℕ) (q : declared-shift.S
   study = study-of b (a .right) (made .2)
 
   answer-is : answer l b buffer ≡ operated 3 (shiftOutcome lifts moves b) b (shiftBlock lifts moves b)
-  unfolding answer requested
-  answer-is = rw (le-ltb (length buffer) minBuffer (a .room), a .right, a .asked) (ap (λ (r : Request). requested r l b) (made .0))
+  unfolding requested
+  answer-is =
+      answered-line l b buffer h (a .right)
+      ∙ asked-line l b (length buffer) (a .fits) (a .right) (Shift q) (a .asked)
+      ∙ ap (λ (r : Request). requested r l b) (made .0)
 
   -- the numbers of the two lists stand in the line
   lift-is : (i : ℕ) → i < trains b → at lifts i ≡ shiftLift l i
@@ -106,15 +112,15 @@ module _ (l : List ℕ) (b : List ℤ) (buffer : List ℕ) (q : declared-shift.S
 -- 'c0 grows by the sum of u_i', and the other two equations: the block that an accepted line of kind 03 leaves
 pub shift-line : (l : List ℕ) (b : List ℤ) (buffer : List ℕ) → kindOf l ≡ 3 → accepted (answer l b buffer .reply) ≡ true
     → SameEnds b (endsOf (answer l b buffer .block)) (lineEnds l b)
-shift-line l b buffer k y = let w = accepted-asks l b buffer y in go (w .request) (w .asks) (line-kind l b (w .request) (w .asks .asked))
+shift-line l b buffer k y = let w = accepted-asks l b buffer y in go (w .large) (w .request) (w .asks) (line-kind l b (w .request) (w .asks .asked))
   where
-    go : (q : Request) → Asks l b q buffer → kindOf l ≡ kindNumber (requestKind q) → SameEnds b (endsOf (answer l b buffer .block)) (lineEnds l b)
-    go (Load q) a e = absurd (omega arith)
-    go (Add q) a e = absurd (omega arith)
-    go (Shift q) a e = asked-ends l b buffer q a y
-    go Tighten a e = absurd (omega arith)
-    go (Certify q) a e = absurd (omega arith)
-    go (Search q) a e = absurd (omega arith)
+    go : minBuffer ≤ length buffer → (q : Request) → Asks l b q (length buffer) → kindOf l ≡ kindNumber (requestKind q) → SameEnds b (endsOf (answer l b buffer .block)) (lineEnds l b)
+    go h (Load q) a e = absurd (omega arith)
+    go h (Add q) a e = absurd (omega arith)
+    go h (Shift q) a e = asked-ends l b buffer h q a y
+    go h Tighten a e = absurd (omega arith)
+    go h (Certify q) a e = absurd (omega arith)
+    go h (Search q) a e = absurd (omega arith)
 
 -- the three equations, each by itself
 module _ (l : List ℕ) (b : List ℤ) (buffer : List ℕ) (k : kindOf l ≡ 3) (y : accepted (answer l b buffer .reply) ≡ true) where

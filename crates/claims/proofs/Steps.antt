@@ -7,14 +7,16 @@ use Prim.Native.Nat.{ℕ, _+_, _*_, _<_, _≤_, _^_}
 use native.Mathlib.Decide.{ℕ-discrete, decLt}
 use native.Mathlib.Omega.{arith}
 use lib.IntN.{ℤ}
+use lib.ListN.{length}
 use borrow.Author.Tests.{eq-eqb, ne-eqb}
-use Rattle.tables.specs.Block.{maxTrains, maxPairs, maxCost, trains, size, first, second, loadedChoice}
+use Rattle.units.proofs.Bound.{rounded-most}
+use Rattle.tables.specs.Block.{maxTrains, maxPairs, maxCost, trains, scale, constant, size, first, second, loadedChoice}
 use Rattle.tables.specs.Ranges.{maxFullWeight}
 use Rattle.tables.specs.WellFormed.{holdsStudy, Study}
 use Rattle.tables.specs.Plans.{IsPlan, shapeOf, loadedCosts, loadedTotal}
 use Rattle.tables.proofs.Plans.{study-shaped, alike-inside, same-shape-total}
 use Rattle.tables.proofs.Range.{not-both}
-use Rattle.tables.proofs.Study.{holds-study, study-well-formed, trains-range, pairs-range, size-range, loaded-choice-range}
+use Rattle.tables.proofs.Study.{holds-study, study-well-formed, trains-range, scale-range, pairs-range, constant-range, size-range, loaded-choice-range}
 use Rattle.operations.specs.declared.outcome.Outcome.{Outcome}
 use Rattle.operations.specs.declared.outcome.Outcome.the-variants.{Done, CostAbove as cost-above, PartsOutside as parts-outside}
 use Rattle.operations.specs.Add.{added, addOutcome, addBlock}
@@ -49,13 +51,16 @@ use Rattle.reader.proofs.LineRefused.{ofReading, line-refused}
 use Rattle.search.specs.Answer.{searchAnswer}
 use Rattle.search.proofs.Theorems.{search-entries}
 use Rattle.replies.specs.Replies.{refusalReply, figureWidth, boundOf, boundReply, certifyReply, searchReply}
-use Rattle.service.specs.Answer.{Answer, answered, declined, operated, certified, requested, answer}
+use Rattle.replies.specs.Wrote.{longestFixed}
+use Rattle.requests.specs.Answer.{Answer, answered, declined, operated, certified, requested, lineAnswer}
+use Rattle.requests.proofs.LineCases.{line-cases}
+use Rattle.service.specs.Answer.{answer}
 use Rattle.service.specs.Calls.{exchange}
-use Rattle.service.proofs.AnswerCases.{answer-cases}
+use Rattle.service.proofs.AnswerCases.{fixed-fit, answer-cases}
 use Rattle.claims.specs.Ledger.{Ledger, accepted, loadedLedger, addedLedger, fed}
 use Rattle.claims.specs.Claims.{outside, malformed, AddOrTighten, AtCall}
 use Rattle.claims.proofs.Found.{ceiling-holds, known-plan, known-low, ended-least}
-use Rattle.claims.proofs.Keeps.{Keeps, plan-out, cost-is, bound-low, total-most, entry-most, loaded-total-most, scaled-most, held-total-most}
+use Rattle.claims.proofs.Keeps.{Keeps, bound-low, total-most, entry-most, scaled-most, held-total-most}
 use Rattle.claims.proofs.Kept.{load-keeps, rewritten-keeps, add-scaled, add-keeps}
 use Rattle.claims.proofs.Lines.{at-refused, other-refusal, empty-shows, at-bound, at-ceiling, Right, at-search}
 use Rattle.claims.proofs.ReadBack.{empty-refused, refusal-refused, bound-accepted, certify-accepted, search-accepted}
@@ -118,20 +123,13 @@ good-declined {g} {b} k l r w = good-by g g b l (declined b r) (fed-refused g l 
 
 -- ---- replies that show a bound
 
--- the plan that takes choice 0 everywhere
-zero-plan : {b : List ℤ} → Study b → IsPlan (shapeOf b) (λ i. 0)
-unfolding IsPlan shapeOf
-zero-plan s i h = size-range s i h .0
-
--- the bound that a reply shows fits its field
-bound-fits : {g : Ledger} {b : List ℤ} → Keeps g b → boundOf b < 256 ^ figureWidth
-bound-fits {g} {b} k =
-    let p = zero-plan (k .study) in
-    omega (arith, bound-low k (λ i. 0) (plan-out k (λ i. 0) p), cost-is k (λ i. 0) p, loaded-total-most (k .study) (λ i. 0) p)
+-- the bound that a reply shows fits its field: it is at most c0, and c0 at most L
+bound-fits : {b : List ℤ} → Study b → boundOf b < 256 ^ figureWidth
+bound-fits {b} s = omega (arith, rounded-most (scale b) (scale-range s .0) (constant b), constant-range s)
 
 good-bound : (g h : Ledger) (old : List ℤ) (l : List ℕ) (kind : ℕ) (b : List ℤ) → kindOf l ≡ kind → kind ≤ 4 → fed (exchange l (boundReply kind b)) g ≡ h → Keeps h b
     → Good g old l (answered b (boundReply kind b))
-good-bound g h old l kind b m q e k = good-by g h old l (answered b (boundReply kind b)) e k (at-bound h old l kind b m q (bound-fits k) (bound-low k))
+good-bound g h old l kind b m q e k = good-by g h old l (answered b (boundReply kind b)) e k (at-bound h old l kind b m q (bound-fits (k .study)) (bound-low k))
 
 -- ---- load, on any block
 
@@ -276,11 +274,17 @@ module _ {g : Ledger} {b : List ℤ} (k : Keeps g b) (l : List ℕ) where
   good-request (Certify q) m e = as-asked (Certify q) (certifyRequest l (weightCount b)) (m .0) (good-certify e (certify-fine l (weightCount b) (m .1) .fullWeight))
   good-request (Search q) m e = as-asked (Search q) (searchRequest l) (m .0) (good-search e)
 
-  -- a call on a block that the ledger keeps
+  -- a line on a block that the ledger keeps, where there is room for every fixed reply
+  pub good-line : (room : ℕ) → longestFixed ≤ room → Good g b l (lineAnswer l b room)
+  good-line room h =
+      line-cases l b room h (study-well-formed (k .study)) (Good g b l)
+      (λ r e. good-declined k l r (line-allowed l b r e))
+      (λ q a. good-request q (line-makes l b q (a .asked) .1) (line-kind l b q (a .asked)))
+
+  -- a call on it
   pub good-call : (buffer : List ℕ) → Good g b l (answer l b buffer)
   good-call buffer =
       answer-cases l b buffer (Good g b l)
       (λ h. good-by g g b l (answered b []) (fed-refused g l [] empty-refused) k (empty-call g b l))
       (λ e. absurd (not-both (study-well-formed (k .study)) e))
-      (λ r e. good-declined k l r (line-allowed l b r e))
-      (λ q a. good-request q (line-makes l b q (a .asked) .1) (line-kind l b q (a .asked)))
+      (λ h e. good-line (length buffer) (fixed-fit buffer h))

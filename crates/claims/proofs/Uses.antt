@@ -11,7 +11,6 @@ use native.Mathlib.Omega.{arith}
 use lib.Dec.{eqb}
 use lib.IntN.{ℤ}
 use lib.ListN.{length, take}
-use borrow.Author.Tests.{le-ltb}
 use Rattle.tables.specs.Sum.{sum}
 use Rattle.tables.specs.Block.{trains, scale, pairs, constant, size, first, second, loadedChoice, loadedEntry}
 use Rattle.tables.specs.WellFormed.{freshBlock}
@@ -23,11 +22,11 @@ use Rattle.frames.specs.Fields.{field}
 use Rattle.frames.specs.Runs.{listFrom}
 use Rattle.lines.specs.Layout.{pairAt}
 use Rattle.lines.specs.Numbers.{entriesOf, numbersOf}
-use Rattle.reader.specs.Reading.{lineOf}
 use Rattle.replies.specs.Replies.{boundOf}
-use Rattle.replies.specs.Wrote.{minBuffer}
-use Rattle.service.specs.Answer.{lineAnswer, answer}
+use Rattle.requests.specs.Answer.{lineAnswer}
+use Rattle.service.specs.Answer.{minBuffer, answer}
 use Rattle.service.specs.Calls.{Exchange, exchange}
+use Rattle.service.proofs.Calls.{answered-line}
 use Rattle.claims.specs.Ledger.{Ledger, accepted, loadedLedger, emptyLedger, fed, ledgerOf, costOf, hasLoad}
 use Rattle.claims.specs.Claims.{PlanOf, DeclinedAs, scaledCost, AtLine, AtCall, EachCall, AfterList, Claimed}
 use Rattle.claims.specs.Seen.{Seen, Chained, seenBlocks, seenExchanges}
@@ -206,9 +205,8 @@ module _ {b₀ b₁ b₂ b₃ b : List ℤ} (d : Claimed (b₀ ∷ b₁ ∷ b₂
   j-bound = after .bound (plan 0 1) plan-01
 
 -- a call on the block that a list left is answered by its line: never with 16
-next-line : {bs : List (List ℤ)} {es : List Exchange} {b : List ℤ} → Claimed bs es b → (l buffer : List ℕ) → minBuffer ≤ length buffer → answer l b buffer ≡ lineAnswer (lineOf l b) l b
-unfolding answer
-next-line d l buffer h = rw (le-ltb (length buffer) minBuffer h, d .right) refl
+next-line : {bs : List (List ℤ)} {es : List Exchange} {b : List ℤ} → Claimed bs es b → (l buffer : List ℕ) → minBuffer ≤ length buffer → answer l b buffer ≡ lineAnswer l b (length buffer)
+next-line {b = b} d l buffer h = answered-line l b buffer h (d .right)
 
 -- ---- what a caller saw
 

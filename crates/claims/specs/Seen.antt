@@ -5,8 +5,8 @@ use Prim.Native.Nat.{ℕ}
 use lib.IntN.{ℤ}
 use lib.ListN.{take}
 use Rattle.tables.specs.WellFormed.{freshBlock}
+use Rattle.requests.specs.Wrote.{Answers}
 use Rattle.service.specs.Answer.{answer}
-use Rattle.service.specs.Wrote.{Answers}
 use Rattle.service.specs.Calls.{Exchange, exchange}
 use Rattle.claims.specs.Claims.{Claimed}
 

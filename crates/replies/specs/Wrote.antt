@@ -4,6 +4,10 @@ use mathlib.Core.List.{List, _++_}
 use Prim.Native.Nat.{ℕ}
 use lib.ListN.{length, drop}
 
+-- how many characters the longest of the fixed replies has: that of a search of `maxTrains` trains
+abbrev pub longestFixed : ℕ
+longestFixed = 72
+
 -- 17: 'reply buffer below 72 bytes'
 abbrev pub minBuffer : ℕ
 minBuffer = 72

@@ -1,28 +1,29 @@
--- What an answer does not depend on, and what leaves the block: a buffer that is large enough decides nothing, lines over the limit are answered alike, certificates leave the block.
+-- What an answer does not depend on: a buffer that is large enough decides nothing, and lines over the limit are answered alike.
 use mathlib.Core.Path.{_≡_, refl}
+use mathlib.Core.Bool.{Bool, true, false, cond}
 use mathlib.Core.List.{List}
 use Prim.Native.Nat.{ℕ, _<_, _≤_}
 use lib.IntN.{ℤ}
 use lib.ListN.{length}
-use borrow.Author.Tests.{lt-ltb, le-ltb}
-use Rattle.certificates.specs.declared.certify.Certificate.{Certificate}
-use Rattle.certificates.specs.declared.certify.Certificate.the-variants.{Unbalanced, Balanced}
+use borrow.Author.Tests.{le-ltb}
+use Rattle.tables.specs.WellFormed.{wellFormed}
 use Rattle.frames.specs.Frames.{maxCharacters}
-use Rattle.reader.specs.Reading.{lineOf}
-use Rattle.replies.specs.Wrote.{minBuffer}
-use Rattle.service.specs.Answer.{answered, declined, certified, answer}
+use Rattle.lines.specs.declared.refusal.Refusal.the-variants.{Malformed}
+use Rattle.requests.specs.Answer.{declined, lineAnswer}
+use Rattle.requests.proofs.LineCases.{room-apart, long-line}
+use Rattle.service.specs.Answer.{minBuffer, answer}
+use Rattle.service.proofs.AnswerCases.{fixed-fit}
 
--- a buffer of 72 bytes or more decides nothing
+-- a buffer that is large enough decides nothing
 pub buffer-apart : (l : List ℕ) (b : List ℤ) (u v : List ℕ) → minBuffer ≤ length u → minBuffer ≤ length v → answer l b u ≡ answer l b v
 unfolding answer
-buffer-apart l b u v p q = rw (le-ltb (length u) minBuffer p, le-ltb (length v) minBuffer q)
+buffer-apart l b u v p q = rw (le-ltb (length u) minBuffer p, le-ltb (length v) minBuffer q) (go (wellFormed b) refl)
+  where
+    go : (t : Bool) → wellFormed b ≡ t → cond t (lineAnswer l b (length u)) (declined b Malformed) ≡ cond t (lineAnswer l b (length v)) (declined b Malformed)
+    go true e = room-apart l b (length u) (length v) (fixed-fit u p) (fixed-fit v q) e
+    go false e = refl
 
 -- lines over the limit are all answered alike
 pub long-alike : (l k : List ℕ) (b : List ℤ) (d : List ℕ) → maxCharacters < length l → maxCharacters < length k → answer l b d ≡ answer k b d
-unfolding answer lineOf
-long-alike l k b d g h = rw (lt-ltb maxCharacters (length l) g, lt-ltb maxCharacters (length k) h)
-
--- certificates and searches leave the block, declined or not
-pub certified-leaves : (fullWeight : ℕ) (c : Certificate) (b : List ℤ) → certified fullWeight c b .block ≡ b
-certified-leaves fullWeight Unbalanced b = refl
-certified-leaves fullWeight (Balanced c) b = refl
+unfolding answer
+long-alike l k b d g h = rw (long-line l k b (length d) g h)

@@ -2,7 +2,8 @@
 use mathlib.Core.Path.{_≡_, refl, ap}
 use mathlib.Core.List.{List, [], _∷_, _++_}
 use lib.IntN.{ℤ}
-use Rattle.service.specs.Answer.{Answer, answer}
+use Rattle.requests.specs.Answer.{Answer}
+use Rattle.service.specs.Answer.{answer}
 use Rattle.service.specs.Calls.{Call, Exchange, exchange, lastBlock, blocks, exchanges}
 
 -- the answer to a call that follows a list

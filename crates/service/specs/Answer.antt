@@ -5,70 +5,14 @@ use Prim.Native.Nat.{ℕ}
 use lib.Dec.{ltb}
 use lib.IntN.{ℤ}
 use lib.ListN.{length}
-use Rattle.tables.specs.Block.{trains}
 use Rattle.tables.specs.WellFormed.{wellFormed}
-use Rattle.operations.specs.declared.outcome.Outcome.{Outcome}
-use Rattle.operations.specs.declared.outcome.Outcome.the-variants.{Done, CostAbove as cost-above, PartsOutside as parts-outside}
-use Rattle.operations.specs.Add.{addOutcome, addBlock}
-use Rattle.operations.specs.Load.{loadedBlock}
-use Rattle.shift.specs.Shift.{shiftOutcome, shiftBlock}
-use Rattle.tighten.specs.Tighten.{tightenOutcome, tightenBlock}
-use Rattle.certificates.specs.declared.certify.Certificate.{Certificate}
-use Rattle.certificates.specs.declared.certify.Certificate.the-variants.{Unbalanced, Balanced}
-use Rattle.certificates.specs.Certify.{weightsOf, certificate}
-use Rattle.frames.specs.Runs.{runOf, signedRunOf}
-use Rattle.lines.specs.declared.refusal.Refusal.{Refusal}
-use Rattle.lines.specs.declared.refusal.Refusal.the-variants.{CostAbove, PartsOutside, Sums, Malformed}
-use Rattle.lines.specs.declared.request.Request.{Request}
-use Rattle.lines.specs.declared.request.Request.the-variants.{Load, Add, Shift, Tighten, Certify, Search}
-use Rattle.lines.specs.declared.request.Line.{Line}
-use Rattle.lines.specs.declared.request.Line.the-variants.{Asked, Refused}
-use Rattle.lines.specs.Layout.{moveWidth, weightWidth}
-use Rattle.lines.specs.Numbers.{numbersOf}
-use Rattle.reader.specs.Reading.{lineOf}
-use Rattle.search.specs.Answer.{searchAnswer}
-use Rattle.replies.specs.Replies.{refusalReply, boundReply, certifyReply, searchReply}
-use Rattle.replies.specs.Wrote.{minBuffer}
+use Rattle.lines.specs.declared.refusal.Refusal.the-variants.{Malformed}
+use Rattle.requests.specs.Answer.{Answer, answered, declined, lineAnswer}
 
--- the block after the call, and the reply
-pub record Answer : Type 0 where
-  pub block : List ℤ
-  pub reply : List ℕ
+-- 17: 'reply buffer below 72 bytes'
+abbrev pub minBuffer : ℕ
+minBuffer = 72
 
-abbrev pub answered : List ℤ → List ℕ → Answer
-answered b reply = record { block = b; reply = reply }
-
--- 'A declined line answers FF and the number as one byte, and leaves the block'
-abbrev pub declined : List ℤ → Refusal → Answer
-declined b r = answered b (refusalReply r)
-
--- an operation that is done answers with the new constant and bound; 10 and 12 leave the block
-abbrev pub operated : ℕ → Outcome → List ℤ → List ℤ → Answer
-operated kind Done old new = answered new (boundReply kind new)
-operated kind cost-above old new = declined old CostAbove
-operated kind parts-outside old new = declined old PartsOutside
-
--- 'Certify and search change nothing in the block'; 14 where the sums disagree
-abbrev pub certified : ℕ → Certificate → List ℤ → Answer
-certified fullWeight Unbalanced b = declined b Sums
-certified fullWeight (Balanced c) b = answered b (certifyReply fullWeight c)
-
--- what each request does, with the long fields read from the line
-unfoldable pub requested : Request → List ℕ → List ℤ → Answer
-requested (Load q) l b = answered (loadedBlock (numbersOf l)) (boundReply 1 (loadedBlock (numbersOf l)))
-requested (Add q) l b = operated 2 (addOutcome (q .train) (q .choice) (q .points .0) b) b (addBlock (q .train) (q .choice) (q .points .0) b)
-requested (Shift q) l b =
-    let lifts = signedRunOf l (q .lifts .at) moveWidth (q .lifts .count) in
-    let moves = signedRunOf l (q .moves .at) moveWidth (q .moves .count) in
-    operated 3 (shiftOutcome lifts moves b) b (shiftBlock lifts moves b)
-requested Tighten l b = operated 4 (tightenOutcome b) b (tightenBlock b)
-requested (Certify q) l b = certified (q .full) (certificate b (weightsOf b (q .full) (runOf l (q .weights .at) weightWidth (q .weights .count)))) b
-requested (Search q) l b = answered b (searchReply (trains b) (searchAnswer b (q .budget)))
-
-abbrev pub lineAnswer : Line → List ℕ → List ℤ → Answer
-lineAnswer (Asked q) l b = requested q l b
-lineAnswer (Refused r) l b = declined b r
-
--- 'Order: 17, 16', then the line; 17 'hands back an empty part and writes nothing'
+-- 'Order: 17, 16', then the line; 17 'hands back an empty part and writes nothing'. Of the buffer its length counts, and nothing else
 unfoldable pub answer : List ℕ → List ℤ → List ℕ → Answer
-answer l b buffer = cond (ltb (length buffer) minBuffer) (answered b []) (cond (wellFormed b) (lineAnswer (lineOf l b) l b) (declined b Malformed))
+answer l b buffer = cond (ltb (length buffer) minBuffer) (answered b []) (cond (wellFormed b) (lineAnswer l b (length buffer)) (declined b Malformed))

@@ -1,3 +1,2 @@
-// The answer to a call: what each request does. The definition of the answer stands in specs/.
-pub mod entry;
-mod requests;
+// The call: 17, 16, and then the line. The definition of the answer stands in specs/.
+pub mod call;

@@ -9,8 +9,8 @@ use lib.ListN.{length, take, drop, length-drop, drop-of-length-le}
 use lib.Seq.{take-all, take-add, drop-at, drop-drop, length-take-le}
 use Rattle.tables.specs.WellFormed.{freshBlock}
 use Rattle.replies.proofs.Writing.{wrote-taken}
-use Rattle.service.specs.Answer.{answered}
-use Rattle.service.specs.Wrote.{Answers}
+use Rattle.requests.specs.Answer.{answered}
+use Rattle.requests.specs.Wrote.{Answers}
 use Rattle.stream.specs.Parts.{lineLength, keptMost, lengthened, nextLine, Shown, steps, overPart, start, overMore, overParts, lastAnswer}
 use Rattle.stream.specs.declared.splitting.Step.{Step}
 use Rattle.stream.specs.Steps.{Steps, Leaves, AfterParts, StepPrints, EndPrints}

@@ -11,10 +11,11 @@ use lib.IntN.{ℤ}
 use lib.ListN.{length, take, drop, set, getD, length-take, length-append, length-replicate}
 use lib.Seq.{paste, take-all, take-take, take-append-add, take-paste, length-take-le, drop-cons, set-at}
 use borrow.Author.Tests.{lt-ltb, le-ltb, ltb-true, ltb-false, ne-eqb}
-use Rattle.replies.specs.Wrote.{minBuffer, Wrote}
+use Rattle.replies.specs.Wrote.{Wrote}
 use Rattle.replies.proofs.Writing.{wrote-none, wrote-length}
-use Rattle.service.specs.Answer.{Answer, answered, answer}
-use Rattle.service.specs.Wrote.{Answers}
+use Rattle.requests.specs.Answer.{Answer, answered}
+use Rattle.requests.specs.Wrote.{Answers}
+use Rattle.service.specs.Answer.{minBuffer, answer}
 use Rattle.service.proofs.Answers.{buffer-apart}
 use Rattle.service.proofs.Calls.{reply-short}
 use Rattle.stream.specs.Session.{lineFeed, lineCall}

@@ -12,7 +12,7 @@ use lib.Seq.{take-all, take-take, take-append-le, length-take-le}
 use borrow.Author.Tests.{ltb-true, ltb-false, ne-eqb}
 use Rattle.tables.specs.WellFormed.{freshBlock}
 use Rattle.frames.specs.Frames.{maxCharacters}
-use Rattle.service.specs.Answer.{answered}
+use Rattle.requests.specs.Answer.{answered}
 use Rattle.service.specs.Calls.{exchanges}
 use Rattle.service.proofs.Answers.{long-alike}
 use Rattle.stream.specs.Session.{lineFeed, noLine, lineCall, lineCalls, linesFrom, replyLines, printedFrom, printed}

@@ -8,7 +8,8 @@ use lib.IntN.{ℤ}
 use lib.ListN.{length, take, drop}
 use Rattle.tables.specs.WellFormed.{freshBlock}
 use Rattle.frames.specs.Frames.{maxCharacters}
-use Rattle.service.specs.Answer.{Answer, answered, answer}
+use Rattle.requests.specs.Answer.{Answer, answered}
+use Rattle.service.specs.Answer.{answer}
 use Rattle.stream.specs.Session.{lineFeed, noLine, lineCall}
 
 -- how many bytes stand before the first line feed; all, where there is none

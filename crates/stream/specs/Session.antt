@@ -7,7 +7,7 @@ use lib.Dec.{eqb}
 use lib.IntN.{ℤ}
 use lib.ListN.{length, replicate}
 use Rattle.tables.specs.WellFormed.{freshBlock}
-use Rattle.replies.specs.Wrote.{minBuffer}
+use Rattle.service.specs.Answer.{minBuffer}
 use Rattle.service.specs.Calls.{Call, Exchange, exchanges}
 
 -- 'line end': a line feed

@@ -4,8 +4,8 @@ use mathlib.Core.List.{List}
 use Prim.Native.Nat.{ℕ, _≤_}
 use lib.IntN.{ℤ}
 use lib.ListN.{length, take}
-use Rattle.service.specs.Answer.{answered}
-use Rattle.service.specs.Wrote.{Answers}
+use Rattle.requests.specs.Answer.{answered}
+use Rattle.requests.specs.Wrote.{Answers}
 use Rattle.stream.specs.Parts.{keptMost, Taken, nextLine, Shown, start, overParts, lastAnswer}
 use Rattle.stream.specs.declared.splitting.Step.{Step}
 

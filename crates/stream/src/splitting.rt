@@ -3,11 +3,11 @@ ghost use mathlib.Core.Path.{_≡_};
 ghost use Prim.Native.Nat.{_+_, _-_, _≤_, min};
 ghost use lib.ListN.{length, take};
 ghost use lib.Seq.{paste};
-ghost use Rattle.service.specs.Wrote.{Answers};
+ghost use Rattle.requests.specs.Wrote.{Answers};
 ghost use Rattle.stream.specs.Parts.{lineLength, keptMost, answerLine, nextLine, lastAnswer};
 ghost use Rattle.stream.specs.Steps.{Steps};
 use frames::frame::Frame;
-use service::entry;
+use service::call;
 
 pub const LINE_FEED: u8 = 10;
 
@@ -15,7 +15,7 @@ pub const LINE_FEED: u8 = 10;
 pub const KEPT: usize = Frame::CHARACTERS + 1;
 
 // A reply and a line feed.
-pub const REPLY: usize = entry::MIN_BUFFER + 1;
+pub const REPLY: usize = call::MIN_BUFFER + 1;
 
 // What a step came to: how many bytes of the part it took, how many characters of the line are kept, and how many bytes are to be printed.
 pub struct Step {
@@ -65,7 +65,7 @@ fn reply_line(line: &[u8], kept: usize, block: &mut [i64], reply: &mut [u8; REPL
     requires { ⌜ kept ≤ length (now line) ⌝ }
     ensures { λ r. ⌜ Answers (answerLine (take kept (now (line .entry))) (now (block .entry))) (now (reply .entry)) (now (block .exit)) (now (reply .exit)) r ⌝ }
 {
-    let n = entry::respond(&line[..kept], block, reply);
+    let n = call::respond(&line[..kept], block, reply);
     reply[n] = LINE_FEED;
     n + 1
 }

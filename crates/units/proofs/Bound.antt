@@ -2,7 +2,7 @@
 use mathlib.Core.Path.{_≡_, refl, sym}
 use mathlib.Core.Bool.{Bool, true, false, cond}
 use Prim.Native.Nat.{ℕ, suc, _+_, _-_, _*_, _/_, _<_, _≤_}
-use native.Mathlib.Nat.{mul-comm, suc-mul, div-lt-iff-lt-mul, lt-div-mul-add, le-antisymm, le-of-mul-le-mul-left}
+use native.Mathlib.Nat.{mul-comm, suc-mul, div-lt-iff-lt-mul, lt-div-mul-add, le-antisymm, le-of-mul-le-mul-left, le-mul-of-pos-right}
 use native.Mathlib.Omega.{arith}
 use lib.Dec.{ltb}
 use borrow.Author.Tests.{le-ltb, ltb-false}
@@ -37,6 +37,10 @@ module _ (s : ℕ) (h : 0 < s) where
   rounded-least c p e =
       let q : (c + (s - 1)) / s < suc p = div-lt-iff-lt-mul h .1 (omega (arith, mul-comm s p, suc-mul p s)) in
       omega arith
+
+  -- the bound in points is not above the constant in parts
+  pub rounded-most : (c : ℕ) → roundedUp s c ≤ c
+  rounded-most c = rounded-least c c (omega (arith, le-mul-of-pos-right c h, mul-comm s c))
 
   -- a whole number of points is published as itself
   pub rounded-whole : (p : ℕ) → roundedUp s (s * p) ≡ p

@@ -1,0 +1,131 @@
+-- Each request has its function, and its case of the definition.
+use borrow.Author.Needs.{needs}
+use Rattle.requests.proofs.Ready.{add-ready, tighten-ready, search-ready}
+use Rattle.requests.proofs.Outcomes.{add-answers, tighten-answers, certify-answers, search-answers}
+use Rattle.requests.proofs.line.answer_request.Statement.{statement}
+use Rattle.requests.proofs.line.answer_request.Tie as tie
+
+enum-known-q : tie.Need-enum-known-q
+enum-known-q c = search needs
+
+answer-load-requires : tie.Need-answer-load-requires
+answer-load-requires c κs = let a = rw (c .before .before .before .q .given .1) at (c .before .before .before .before .before .before .before .pre) in a
+
+enum-known-q-2 : tie.Need-enum-known-q-2
+enum-known-q-2 c = search needs
+
+answer-add-requires : tie.Need-answer-add-requires
+answer-add-requires c κs = let a = rw (c .before .before .before .q2 .given .1) at (c .before .before .before .before .before .before .before .pre) in (a .fits, add-ready a)
+
+enum-known-q-3 : tie.Need-enum-known-q-3
+enum-known-q-3 c = search needs
+
+answer-shift-requires : tie.Need-answer-shift-requires
+answer-shift-requires c κs = let a = rw (c .before .before .before .q3 .given .1) at (c .before .before .before .before .before .before .before .pre) in a
+
+enum-told : tie.Need-enum-told
+enum-told c = search needs
+
+answer-tighten-requires : tie.Need-answer-tighten-requires
+answer-tighten-requires c κs = let a = rw (c .before .before .enum-told .given .1) at (c .before .before .before .before .before .before .pre) in (a .fits, tighten-ready a)
+
+enum-known-q-4 : tie.Need-enum-known-q-4
+enum-known-q-4 c = search needs
+
+answer-certify-requires : tie.Need-answer-certify-requires
+answer-certify-requires c κs = let a = rw (c .before .before .before .q4 .given .1) at (c .before .before .before .before .before .before .before .pre) in a
+
+enum-known-q-5 : tie.Need-enum-known-q-5
+enum-known-q-5 c = search needs
+
+answer-search-requires : tie.Need-answer-search-requires
+answer-search-requires c κs = let a = rw (c .before .before .before .q5 .given .1) at (c .before .before .before .before .before .before .before .pre) in (a .fits, search-ready a .0, search-ready a .1)
+
+same-length : tie.Need-same-length
+same-length c = search needs
+
+same-length-2 : tie.Need-same-length-2
+same-length-2 c = search needs
+
+returns : tie.Need-returns
+returns c = rw (c .before .before .before .before .before .before .before .q .given .1) (c .before .before .before .answer-load .ensures)
+
+same-length-3 : tie.Need-same-length-3
+same-length-3 c = search needs
+
+same-length-4 : tie.Need-same-length-4
+same-length-4 c = search needs
+
+returns-2 : tie.Need-returns-2
+returns-2 c = let s = c .before .before .before .before .before .before .before .before .before .before .before in let g = c .before .before .before .before .before .before .before .q2 .given in rw (g .1) (add-answers (s .args .line .now) (s .args .block .now) (g .0 .0) (c .before .before .before .answer-add .ensures))
+
+same-length-5 : tie.Need-same-length-5
+same-length-5 c = search needs
+
+same-length-6 : tie.Need-same-length-6
+same-length-6 c = search needs
+
+returns-3 : tie.Need-returns-3
+returns-3 c = rw (c .before .before .before .before .before .before .before .q3 .given .1) (c .before .before .before .answer-shift .ensures)
+
+same-length-7 : tie.Need-same-length-7
+same-length-7 c = search needs
+
+same-length-8 : tie.Need-same-length-8
+same-length-8 c = search needs
+
+returns-4 : tie.Need-returns-4
+returns-4 c = let s = c .before .before .before .before .before .before .before .before .before .before in rw (c .before .before .before .before .before .before .enum-told .given .1) (tighten-answers (s .args .line .now) (s .args .block .now) (c .before .before .before .answer-tighten .ensures))
+
+same-length-9 : tie.Need-same-length-9
+same-length-9 c = search needs
+
+same-length-10 : tie.Need-same-length-10
+same-length-10 c = search needs
+
+returns-5 : tie.Need-returns-5
+returns-5 c = let s = c .before .before .before .before .before .before .before .before .before .before in let g = c .before .before .before .before .before .before .q4 .given in rw (g .1) (certify-answers (s .args .line .now) (s .args .block .now) (g .0 .0) (c .before .before .answer-certify .ensures))
+
+same-length-11 : tie.Need-same-length-11
+same-length-11 c = search needs
+
+same-length-12 : tie.Need-same-length-12
+same-length-12 c = search needs
+
+returns-6 : tie.Need-returns-6
+returns-6 c = let s = c .before .before .before .before .before .before .before .before .before .before in let g = c .before .before .before .before .before .before .q5 .given in rw (g .1) (search-answers (s .args .line .now) (s .args .block .now) (g .0 .0) (c .before .before .answer-search .ensures))
+
+pub answer-request-spec : {M : Type 1} → statement M
+answer-request-spec =
+    tie.close
+    (tie.spec
+    enum-known-q
+    answer-load-requires
+    enum-known-q-2
+    answer-add-requires
+    enum-known-q-3
+    answer-shift-requires
+    enum-told
+    answer-tighten-requires
+    enum-known-q-4
+    answer-certify-requires
+    enum-known-q-5
+    answer-search-requires
+    same-length
+    same-length-2
+    returns
+    same-length-3
+    same-length-4
+    returns-2
+    same-length-5
+    same-length-6
+    returns-3
+    same-length-7
+    same-length-8
+    returns-4
+    same-length-9
+    same-length-10
+    returns-5
+    same-length-11
+    same-length-12
+    returns-6)

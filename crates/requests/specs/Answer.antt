@@ -1,0 +1,77 @@
+-- Document 01: the answer to a line on a well-formed block, from the line, the block and the room for the reply to the block and the reply.
+use mathlib.Core.Bool.{cond}
+use mathlib.Core.List.{List, []}
+use Prim.Native.Nat.{ℕ}
+use lib.Dec.{ltb}
+use lib.IntN.{ℤ}
+use lib.ListN.{length}
+use Rattle.tables.specs.Block.{trains}
+use Rattle.operations.specs.declared.outcome.Outcome.{Outcome}
+use Rattle.operations.specs.declared.outcome.Outcome.the-variants.{Done, CostAbove as cost-above, PartsOutside as parts-outside}
+use Rattle.operations.specs.Add.{addOutcome, addBlock}
+use Rattle.operations.specs.Load.{loadedBlock}
+use Rattle.shift.specs.Shift.{shiftOutcome, shiftBlock}
+use Rattle.tighten.specs.Tighten.{tightenOutcome, tightenBlock}
+use Rattle.certificates.specs.declared.certify.Certificate.{Certificate}
+use Rattle.certificates.specs.declared.certify.Certificate.the-variants.{Unbalanced, Balanced}
+use Rattle.certificates.specs.Certify.{weightsOf, certificate}
+use Rattle.frames.specs.Runs.{runOf, signedRunOf}
+use Rattle.lines.specs.declared.refusal.Refusal.{Refusal}
+use Rattle.lines.specs.declared.refusal.Refusal.the-variants.{CostAbove, PartsOutside, Sums}
+use Rattle.lines.specs.declared.request.Request.{Request}
+use Rattle.lines.specs.declared.request.Request.the-variants.{Load, Add, Shift, Tighten, Certify, Search}
+use Rattle.lines.specs.declared.request.Line.{Line}
+use Rattle.lines.specs.declared.request.Line.the-variants.{Asked, Refused}
+use Rattle.lines.specs.Layout.{moveWidth, weightWidth}
+use Rattle.lines.specs.Numbers.{numbersOf}
+use Rattle.reader.specs.Reading.{lineOf}
+use Rattle.search.specs.Answer.{searchAnswer}
+use Rattle.replies.specs.Replies.{refusalReply, boundReply, certifyReply, searchReply}
+
+-- the block after the call, and the reply
+pub record Answer : Type 0 where
+  pub block : List ℤ
+  pub reply : List ℕ
+
+abbrev pub answered : List ℤ → List ℕ → Answer
+answered b reply = record { block = b; reply = reply }
+
+-- 'A declined line answers FF and the number as one byte, and leaves the block'
+abbrev pub declined : List ℤ → Refusal → Answer
+declined b r = answered b (refusalReply r)
+
+-- an operation that is done answers with the new constant and bound; 10 and 12 leave the block
+abbrev pub operated : ℕ → Outcome → List ℤ → List ℤ → Answer
+operated kind Done old new = answered new (boundReply kind new)
+operated kind cost-above old new = declined old CostAbove
+operated kind parts-outside old new = declined old PartsOutside
+
+-- 'Certify and search change nothing in the block'; 14 where the sums disagree
+abbrev pub certified : ℕ → Certificate → List ℤ → Answer
+certified fullWeight Unbalanced b = declined b Sums
+certified fullWeight (Balanced c) b = answered b (certifyReply fullWeight c)
+
+-- what each request does, with the long fields read from the line
+unfoldable pub requested : Request → List ℕ → List ℤ → Answer
+requested (Load q) l b = answered (loadedBlock (numbersOf l)) (boundReply 1 (loadedBlock (numbersOf l)))
+requested (Add q) l b = operated 2 (addOutcome (q .train) (q .choice) (q .points .0) b) b (addBlock (q .train) (q .choice) (q .points .0) b)
+requested (Shift q) l b =
+    let lifts = signedRunOf l (q .lifts .at) moveWidth (q .lifts .count) in
+    let moves = signedRunOf l (q .moves .at) moveWidth (q .moves .count) in
+    operated 3 (shiftOutcome lifts moves b) b (shiftBlock lifts moves b)
+requested Tighten l b = operated 4 (tightenOutcome b) b (tightenBlock b)
+requested (Certify q) l b = certified (q .full) (certificate b (weightsOf b (q .full) (runOf l (q .weights .at) weightWidth (q .weights .count)))) b
+requested (Search q) l b = answered b (searchReply (trains b) (searchAnswer b (q .budget)))
+
+-- what a line asks, done, or the refusal
+abbrev pub carriedOut : Line → List ℕ → List ℤ → Answer
+carriedOut (Asked q) l b = requested q l b
+carriedOut (Refused r) l b = declined b r
+
+-- 17: a reply that is longer than the room for it 'hands back an empty part and writes nothing', and leaves the block
+abbrev pub fitted : ℕ → List ℤ → Answer → Answer
+fitted room b a = cond (ltb room (length (a .reply))) (answered b []) a
+
+-- the answer to a line on a well-formed block, where the reply may have `room` characters
+unfoldable pub lineAnswer : List ℕ → List ℤ → ℕ → Answer
+lineAnswer l b room = fitted room b (carriedOut (lineOf l b) l b)
