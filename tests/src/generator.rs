@@ -7,6 +7,7 @@ use crate::operations::{self, Certificate, Shift};
 use crate::random::Random;
 use crate::rewriting::Rewriting;
 use crate::search;
+use crate::LEAST_BUFFER;
 use std::iter::repeat_with;
 
 /// How far a session goes.
@@ -59,10 +60,10 @@ impl Session {
         }
         let study = model::decode(&given).ok().flatten();
         let capacity = match self.random.below(12) {
-            0 => self.random.pick(&[0, 1, 4, 26, 70, 71]),
-            1 => 73,
+            0 => self.random.pick(&[0, 1, 4, 26, LEAST_BUFFER - 2, LEAST_BUFFER - 1]),
+            1 => LEAST_BUFFER + 1,
             2 => self.random.below(300),
-            _ => 72,
+            _ => LEAST_BUFFER,
         };
         Call { capacity, setting, line: self.line(study.as_ref()) }
     }

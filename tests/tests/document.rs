@@ -3,6 +3,7 @@
 use reference::calls::{digest, Call};
 use reference::lines::digits;
 use reference::model::BLOCK_LENGTH;
+use reference::LEAST_BUFFER;
 
 const J: &str = "010200010202000002000000000000000000010001000001000000000003000002";
 const CERTIFICATE: &str = "05000001000001000000000000000001000000000001000000000000";
@@ -154,10 +155,11 @@ fn calls_have_a_text() {
         let outcome = call.run(reference::answer, &mut block);
         String::from_utf8(outcome.text()).unwrap()
     };
-    assert!(run("71 - 04").starts_with("~ "));
-    assert!(run("72 len=6651 04").starts_with("FF10 "));
-    assert!(run(&format!("72 - {J}")).starts_with("81000000000000000000000000 "));
-    assert!(run("72 3=-1 04").starts_with("FF10 "));
-    assert!(run("72 3=5,316=3 04").starts_with("84000000000007"));
-    assert!(run("72 - ").starts_with("FF01 "));
+    assert!(run(&format!("{} - 04", LEAST_BUFFER - 1)).starts_with("~ "));
+    let mut least = |rest: &str| run(&format!("{LEAST_BUFFER} {rest}"));
+    assert!(least("len=6651 04").starts_with("FF10 "));
+    assert!(least(&format!("- {J}")).starts_with("81000000000000000000000000 "));
+    assert!(least("3=-1 04").starts_with("FF10 "));
+    assert!(least("3=5,316=3 04").starts_with("84000000000007"));
+    assert!(least("- ").starts_with("FF01 "));
 }

@@ -4,12 +4,12 @@ use mathlib.Core.Path.{_≡_, refl}
 use mathlib.Core.List.{List, [], _∷_}
 use lib.IntN.{ℤ, pos, negsuc}
 use lib.ListN.{set}
+use Rattle.theory.specs.Whole.{sumℤ}
+use Rattle.refusals.specs.Verdicts.{verdictNumber}
 use Rattle.tables.specs.Block.{maxParts, constantPlace, at}
 use Rattle.tables.specs.Numbers.{numbers}
-use Rattle.operations.specs.Outcome.{outcomeNumber}
 use Rattle.operations.specs.Load.{loadedBlock}
-use Rattle.rewriting.specs.Whole.{sumℤ, ofPair}
-use Rattle.rewriting.specs.Ends.{Ends}
+use Rattle.rewriting.specs.Ends.{ofPair, Ends}
 use Rattle.shift.specs.Equations.{shiftEnds}
 use Rattle.tighten.specs.Leasts.{tightenEnds}
 use Rattle.tighten.specs.Tighten.{tightenOutcome}
@@ -64,6 +64,6 @@ unfolding computed sumℤ ofPair study listed lifts moves shiftTable tightenTabl
 tables-right = (refl, refl)
 
 -- 12 of tighten, where the constant was L before: the pairs' turns leave it, and the trains' turn raises it above L
-pub tighten-above : outcomeNumber (tightenOutcome (set study constantPlace (pos maxParts))) ≡ 12
+pub tighten-above : verdictNumber (tightenOutcome (set study constantPlace (pos maxParts))) ≡ 12
 unfolding computed study
 tighten-above = refl

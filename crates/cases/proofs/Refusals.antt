@@ -2,8 +2,10 @@
 use mathlib.Core.Path.{refl}
 use mathlib.Core.Bool.{false}
 use mathlib.Core.List.{List, [], _∷_}
+use Prim.Native.Nat.{_-_}
 use lib.IntN.{pos}
 use lib.ListN.{replicate}
+use Rattle.service.specs.Answer.{minBuffer}
 use Rattle.cases.specs.Calls.{Block, Row, declined, declinedLong, silent, Right}
 use Rattle.cases.specs.Computed.{computed}
 use Rattle.cases.specs.Studies.{fresh, jLine, jWith, j}
@@ -49,9 +51,9 @@ table =
     -- 16: 'block of another length or not well formed'
     ∷ declined short jLine "FF10"
     -- 17: 'reply buffer below 72 bytes'
-    ∷ silent 71 fresh jLine
+    ∷ silent (minBuffer - 1) fresh jLine
     -- 'Order: 17, 16, 2, 1, 3, 4. Then fields': 17 before 16, 16 before 2, 1 before 3, 4 before 5; 2 before 1 is row 2, whose count is odd
-    ∷ silent 71 short "04"
+    ∷ silent (minBuffer - 1) short "04"
     ∷ declinedLong short "" 19835 "FF10"
     ∷ declined fresh "FFF" "FF01"
     ∷ declined fresh "0400" "FF04"

@@ -7,10 +7,11 @@ use Prim.Native.String.{String}
 use lib.IntN.{ℤ}
 use lib.ListN.{length}
 use Rattle.tables.specs.WellFormed.{wellFormed}
+use Rattle.frames.specs.Text.{zeros}
 use Rattle.replies.specs.Wrote.{written}
 use Rattle.requests.specs.Answer.{Answer}
 use Rattle.service.specs.Answer.{minBuffer, answer}
-use Rattle.cases.specs.Written.{text, zeros, marks, Written, laid}
+use Rattle.cases.specs.Written.{text, marks, Written, laid}
 
 -- ---- rows
 

@@ -4,13 +4,16 @@ use mathlib.Core.List.{List, [], _∷_}
 use Prim.Native.Nat.{ℕ}
 use lib.Dec.{ltb}
 use lib.ListN.{length}
+use Rattle.theory.specs.Sum.{sum}
+use Rattle.theory.specs.Range.{all, pass}
+use Rattle.theory.specs.Fold.{iter, least}
+use Rattle.theory.specs.Lists.{listFrom}
 use Rattle.units.specs.Units.{roundedUp}
-use Rattle.tables.specs.Sum.{sum}
-use Rattle.tables.specs.Range.{all, pass}
+use Rattle.refusals.specs.declared.Refusal.the-variants.{Malformed}
+use Rattle.refusals.specs.Verdicts.{firstOf}
 use Rattle.tables.specs.Block.{figure}
-use Rattle.tables.specs.WellFormed.{within, choiceUsed, entryUsed, headLimits, shapeLimits, costLimits, limitsAt, placesRight, before, follows, pairRight, pairsRight, isZero, fresh, holdsStudy, wellFormed}
-use Rattle.tables.specs.Plans.{shapeOf, heldCosts}
-use Rattle.operations.specs.Fold.{iter, least}
+use Rattle.tables.specs.WellFormed.{within, choiceUsed, entryUsed, headLimits, shapeLimits, costLimits, limitsAt, placesRight, before, follows, pairRight, pairsRight, isZero, holdsStudy, wellFormed, isFresh}
+use Rattle.tables.specs.Plans.{heldCosts}
 use Rattle.operations.specs.Add.{added}
 use Rattle.operations.specs.Load.{loadedBlock}
 use Rattle.rewriting.specs.Moves.{moveRun}
@@ -20,20 +23,22 @@ use Rattle.certificates.specs.Certify.{trainBalanced, rowBalanced, columnBalanc
 use Rattle.frames.specs.Digits.{digit, digitOf, byteAt}
 use Rattle.frames.specs.Fields.{field, signed, fieldDigits}
 use Rattle.frames.specs.Frames.{allDigits, framed}
-use Rattle.frames.specs.Runs.{listFrom}
-use Rattle.lines.specs.declared.refusal.Refusal.the-variants.{Malformed}
+use Rattle.frames.specs.Runs.{runDigits}
+use Rattle.frames.specs.Text.{zeros}
 use Rattle.lines.specs.Kinds.{newKind}
 use Rattle.lines.specs.Layout.{pairAt}
-use Rattle.lines.specs.Numbers.{entriesOf, numbersOf}
-use Rattle.lines.specs.Verdicts.{firstOf, fieldVerdict, runsVerdict, pairOrdered, pairVerdict, headVerdict, restVerdict, loadVerdict}
-use Rattle.reader.specs.Reading.{addVerdict, shiftVerdict, certifyVerdict, searchVerdict, studyLine, kindLine, lineOf}
+use Rattle.lines.specs.Verdicts.{fieldVerdict, runsVerdict, lastVerdict}
+use Rattle.kinds.specs.Load.{pairOrdered, pairVerdict, headVerdict, restVerdict, loadVerdict}
+use Rattle.kinds.specs.Lines.{addVerdict, shiftVerdict, certifyVerdict, searchVerdict}
+use Rattle.decoding.specs.Numbers.{entriesOf, numbersOf}
+use Rattle.reader.specs.Reading.{studyLine, kindLine, lineOf}
 use Rattle.search.specs.Walk.{partialTotal, oneTry, triedFrom, openedTrain, walked, searched}
 use Rattle.search.specs.Walk as walk
 use Rattle.search.specs.Answer.{searchAnswer}
-use Rattle.replies.specs.Replies.{refusalReply, boundReply, certifyReply, planDigits, searchReply}
+use Rattle.replies.specs.Replies.{refusalReply, boundReply, certifyReply, searchReply, fieldsDigits}
 use Rattle.requests.specs.Answer.{Answer, answered, requested, lineAnswer}
 use Rattle.service.specs.Answer.{minBuffer}
-use Rattle.cases.specs.Written.{text, zeros, marks, places, rows, grids, laid}
+use Rattle.cases.specs.Written.{text, marks, places, rows, grids, laid}
 use Rattle.cases.specs.Calls.{Block, held, Row, call, row, declined, declinedLong, silent, Left, leftBy, said}
 
 -- the answer on a block of which it is known whether it is well formed
@@ -46,15 +51,15 @@ answerOn l b buffer =
 unfoldable pub computed : List Row → List Left
 unfolding text zeros marks places rows grids laid held call row declined declinedLong silent leftBy said answerOn
     roundedUp
-    sum all pass figure within choiceUsed entryUsed headLimits shapeLimits costLimits limitsAt placesRight before follows pairRight pairsRight isZero fresh holdsStudy wellFormed shapeOf heldCosts
+    sum all pass figure within choiceUsed entryUsed headLimits shapeLimits costLimits limitsAt placesRight before follows pairRight pairsRight isZero isFresh holdsStudy wellFormed heldCosts
     iter least added loadedBlock
     moveRun pairShifted shifted runLeast runTightened pairTightened tightened
     trainBalanced rowBalanced columnBalanced pairBalanced balanced overChoices overPairs weighted
-    digit digitOf byteAt field signed fieldDigits allDigits framed listFrom
-    newKind pairAt entriesOf numbersOf firstOf fieldVerdict runsVerdict pairOrdered pairVerdict headVerdict restVerdict loadVerdict
+    digit digitOf byteAt field signed fieldDigits allDigits framed listFrom runDigits
+    newKind pairAt entriesOf numbersOf firstOf fieldVerdict lastVerdict runsVerdict pairOrdered pairVerdict headVerdict restVerdict loadVerdict
     addVerdict shiftVerdict certifyVerdict searchVerdict studyLine kindLine lineOf
     walk.added partialTotal oneTry triedFrom openedTrain walked searched searchAnswer
-    refusalReply boundReply certifyReply planDigits searchReply
+    fieldsDigits refusalReply boundReply certifyReply searchReply
     requested lineAnswer
 computed [] = []
 computed (r ∷ rs) = leftBy (answerOn (r .line) (r .on) (marks (r .room))) (r .room) ∷ computed rs

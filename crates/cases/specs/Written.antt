@@ -2,21 +2,22 @@
 -- is cited, so a table says what a whole block holds and rests on none of them.
 use mathlib.Core.Bool.{cond}
 use mathlib.Core.List.{List, [], _∷_}
-use Prim.Native.Char.{code}
 use Prim.Native.Nat.{ℕ, zero, suc, _*_}
-use Prim.Native.String.{String, [] as empty, _∷_ as char-then}
+use Prim.Native.String.{String}
 use lib.Dec.{eqb}
 use lib.IntN.{ℤ, pos}
 use lib.ListN.{length, replicate}
+use Rattle.frames.specs.Text.{codes}
+
+-- all characters but spaces
+unfoldable pub unspaced : List ℕ → List ℕ
+unspaced [] = []
+unspaced (c ∷ l) = cond (eqb c 32) (unspaced l) (c ∷ unspaced l)
 
 -- the characters of a text but its spaces, which part the fields for reading only
 unfoldable pub text : String → List ℕ
-text empty = []
-text (char-then c s) = cond (eqb (code c) 32) (text s) (code c ∷ text s)
-
--- so many times the digit 0
-unfoldable pub zeros : ℕ → List ℕ
-zeros n = replicate n 48
+unfolding codes unspaced
+text s = unspaced (codes s)
 
 -- a buffer of so many characters, none of which is a digit: what a reply does not cover is seen to stay
 unfoldable pub marks : ℕ → List ℕ

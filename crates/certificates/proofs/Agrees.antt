@@ -3,10 +3,10 @@ use mathlib.Core.Path.{_≡_}
 use mathlib.Core.Bool.{true}
 use Prim.Native.Nat.{ℕ, _<_}
 use borrow.Author.Tests.{eqb-true}
-use Rattle.tables.specs.Sum.{sum}
-use Rattle.tables.specs.Range.{all}
+use Rattle.theory.specs.Sum.{sum}
+use Rattle.theory.specs.Range.{all}
+use Rattle.theory.proofs.Range.{both-true, all-true}
 use Rattle.tables.specs.Plans.{Shape}
-use Rattle.tables.proofs.Range.{both-true, all-true}
 use Rattle.certificates.specs.Certify.{Weights, trainBalanced, rowBalanced, columnBalanced, pairBalanced, balanced}
 
 -- each train's weights sum to W, each row and each column of a pair's to the choice's weight

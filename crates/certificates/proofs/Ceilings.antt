@@ -6,11 +6,11 @@ use Prim.Native.Nat.{ℕ, zero, suc, _*_, _^_, _<_, _≤_}
 use native.Mathlib.Omega.{arith}
 use lib.Dec.{eqb}
 use lib.IntN.{ℤ}
+use Rattle.theory.proofs.Range.{both-true}
 use Rattle.tables.specs.Block.{constant}
 use Rattle.tables.specs.WellFormed.{Study}
 use Rattle.tables.specs.Plans.{Shape, AlikeShapes, IsPlan, total, shapeOf, heldCosts}
-use Rattle.tables.specs.Ranges.{maxFullWeight}
-use Rattle.tables.proofs.Range.{both-true}
+use Rattle.tables.specs.LineLimits.{maxFullWeight}
 use Rattle.tables.proofs.Plans.{study-shaped, alike-back, alike-plan}
 use Rattle.certificates.specs.declared.certify.Certificate.the-variants.{Unbalanced, Balanced}
 use Rattle.certificates.specs.declared.certify.Ceiling.{Ceiling}

@@ -5,11 +5,11 @@ use Prim.Native.Nat.{ℕ}
 use lib.Dec.{T, eqb}
 use lib.IntN.{ℤ, pos}
 use lib.ListN.{set}
-use Rattle.tables.specs.Sum.{sum}
-use Rattle.tables.specs.Range.{all}
+use Rattle.theory.specs.Sum.{sum}
+use Rattle.theory.specs.Range.{all}
 use Rattle.tables.specs.Block.{trainsPlace, scalePlace, pairsPlace, constantPlace, sizePlace, firstPlace, secondPlace, heldChoicePlace, heldEntryPlace, figure}
 use Rattle.tables.specs.WellFormed.{freshBlock}
-use Rattle.tables.specs.Plans.{shapeOf, heldCosts}
+use Rattle.tables.specs.Plans.{heldCosts}
 use Rattle.certificates.specs.declared.certify.Certificate.{Certificate}
 use Rattle.certificates.specs.declared.certify.Certificate.the-variants.{Unbalanced, Balanced}
 use Rattle.certificates.specs.Certify.{trainBalanced, rowBalanced, columnBalanced, pairBalanced, balanced, overChoices, overPairs, weighted, weightsOf, certificate}
@@ -64,5 +64,5 @@ table =
     ∷ []
 
 pub table-right : T (right table)
-unfolding sum all figure shapeOf heldCosts trainBalanced rowBalanced columnBalanced pairBalanced balanced overChoices overPairs weighted shape loaded tightened sameBool shows right table
+unfolding sum all figure heldCosts trainBalanced rowBalanced columnBalanced pairBalanced balanced overChoices overPairs weighted shape loaded tightened sameBool shows right table
 table-right = tt

@@ -4,7 +4,7 @@ use mathlib.Core.Logic.{⊎-elim}
 use Prim.Native.Nat.{ℕ, zero, suc, _+_, _*_, _/_, _≤_, _<_, _∣_}
 use native.Mathlib.Nat.{add-mul, zero-mul, mul-one, mul-comm, mul-assoc, mul-right-comm, mul-le-mul-right, mul-pos, eq-or-lt-of-le, le-of-suc-le-suc, le-antisymm, le-of-eq, le-of-mul-le-mul-right, div-mul-cancel, dvd-mul-left, dvd-mul-right, dvd-mul-left-of-dvd, dvd-mul-right-of-dvd, dvd-trans}
 use native.Mathlib.Omega.{arith}
-use Rattle.tables.specs.Sum.{sum}
+use Rattle.theory.specs.Sum.{sum}
 use Rattle.tables.specs.Plans.{Shape, Costs, IsPlan, choiceTotal, pairTotal, total}
 use Rattle.tables.proofs.Plans.{Shaped, plan-first, plan-second}
 use Rattle.certificates.specs.Certify.{Weights, weighted}

@@ -7,9 +7,9 @@ use native.Mathlib.Nat.{mul-add, mul-left-comm}
 use native.Mathlib.Decide.{ℕ-discrete}
 use native.Mathlib.Omega.{arith}
 use lib.Dec.{eqb}
-use Rattle.tables.specs.Sum.{sum, update}
+use Rattle.theory.specs.Sum.{sum, update}
+use Rattle.theory.proofs.Sum.{sum-cong, sum-add, sum-scale, sum-scale-right, sum-const, sum-swap, sum-one, sum-two, update-same, update-other}
 use Rattle.tables.specs.Plans.{Shape, Costs, IsPlan, choiceTotal, pairTotal, total}
-use Rattle.tables.proofs.Sum.{sum-cong, sum-add, sum-scale, sum-scale-right, sum-const, sum-swap, sum-one, sum-two, update-same, update-other}
 use Rattle.tables.proofs.Plans.{Shaped}
 use Rattle.certificates.specs.Certify.{Weights, overChoices, overPairs, weighted}
 use Rattle.certificates.proofs.Agrees.{Agrees}

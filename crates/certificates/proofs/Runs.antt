@@ -9,19 +9,20 @@ use lib.Dec.{eqb}
 use lib.IntN.{ℤ}
 use lib.ListN.{length, getD}
 use borrow.Author.Tests.{eq-eqb, ne-eqb, eqb-true}
-use Rattle.tables.specs.Sum.{sum}
-use Rattle.tables.specs.Ranges.{maxFullWeight}
-use Rattle.tables.specs.Range.{all}
+use Rattle.theory.specs.Sum.{sum}
+use Rattle.theory.specs.Range.{all}
+use Rattle.theory.proofs.Range.{all-true, all-cong, both-true}
+use Rattle.theory.proofs.Sum.{sum-cong, sum-term, sum-more, sum-most, sum-front, sum-weighted, row-part}
+use Rattle.tables.specs.LineLimits.{maxFullWeight}
 use Rattle.tables.specs.Block.{maxTrains, maxChoices, maxPairs, maxParts, figure, heldChoicePlace, heldEntryPlace, trains, pairs, constant, size, first, second}
 use Rattle.tables.specs.WellFormed.{Study}
 use Rattle.tables.specs.Plans.{shapeOf, heldCosts}
-use Rattle.tables.specs.Runs.{choicesBefore, entriesBefore}
-use Rattle.tables.proofs.Sum.{sum-cong, sum-term, sum-more, sum-most, sum-front, sum-weighted, row-part}
-use Rattle.tables.proofs.Range.{all-true, all-cong, both-true}
+use Rattle.tables.specs.Counts.{pairEntries, choicesBefore}
+use Rattle.tables.proofs.Counting.{choices-part, entries-part, rows-range, columns-range}
 use Rattle.tables.proofs.Study.{trains-range, pairs-range, constant-range, size-range, first-below-trains, second-below-trains, held-choice-range, held-entry-range}
 use Rattle.certificates.specs.declared.certify.Judged.the-variants.{Disagree, Part}
 use Rattle.certificates.specs.Certify.{trainBalanced, rowBalanced, columnBalanced, pairBalanced, balanced, overChoices, overPairs, weighted, weightsOf, WeightsFor, ceiling}
-use Rattle.certificates.specs.Runs.{runSum, WeightRun, runWeighted, WeightsWithin, runsMatch, WeightRuns, trainsMatch, entries, entriesFrom, trainMatches, pairMatches, pairsMatch, trainWeighted, trainsWeighted, rowWeighted, pairWeighted, pairsWeighted, TrainsWithin, RowsWithin}
+use Rattle.certificates.specs.Runs.{runSum, WeightRun, runWeighted, WeightsWithin, runsMatch, WeightRuns, trainsMatch, entriesFrom, trainMatches, pairMatches, pairsMatch, trainWeighted, trainsWeighted, rowWeighted, pairWeighted, pairsWeighted, TrainsWithin, RowsWithin}
 
 -- ---- one run
 
@@ -57,48 +58,35 @@ equal e f = eq-eqb _ _ (sym e ∙ f)
 
 -- ---- where the runs are
 
-module _ (b : List ℤ) where
-  train-end : (i : ℕ) → i < trains b → choicesBefore b i + size b i ≤ choicesBefore b (trains b)
-  train-end i h = omega (arith, sum-more i (size b), sum-front (i + 1) (trains b) (size b) (omega arith))
-
-  pair-end : (k : ℕ) → k < pairs b → entriesFrom b k + entries b k ≤ choicesBefore b (trains b) + entriesBefore b (pairs b)
-  pair-end k h = omega (arith, sum-more k (entries b), sum-front (k + 1) (pairs b) (entries b) (omega arith))
-
 -- row a of a table of so many columns ends where the next begins
 module _ {b : List ℤ} {l : List ℕ} (s : Study b) (w : WeightsFor b l) where
   run-of : (from step count : ℕ) → (1 ≤ count) × (count ≤ maxChoices) → ((k : ℕ) → k < count → from + step * k < length l) → WeightRun l from step count
   run-of from step count h q = record { some = h .0; few = h .1; inside = q; small = λ k r. w .small (from + step * k) (q k r) }
 
-  pub train-inside : (i : ℕ) → i < trains b → choicesBefore b i + size b i ≤ length l
-  train-inside i h = omega (arith, train-end b i h, w .count)
+  pub train-inside : (i : ℕ) → i < trains b → choicesBefore (shapeOf b) i + size b i ≤ length l
+  train-inside i h = omega (arith, choices-part (shapeOf b) i (trains b) h, w .count)
 
-  pub train-run : (i : ℕ) → i < trains b → WeightRun l (choicesBefore b i) 1 (size b i)
-  train-run i h = run-of (choicesBefore b i) 1 (size b i) (size-range s i h) (λ k q. omega (arith, train-inside i h))
+  pub train-run : (i : ℕ) → i < trains b → WeightRun l (choicesBefore (shapeOf b) i) 1 (size b i)
+  train-run i h = run-of (choicesBefore (shapeOf b) i) 1 (size b i) (size-range s i h) (λ k q. omega (arith, train-inside i h))
 
   module _ (k : ℕ) (h : k < pairs b) where
-    rows-few : (1 ≤ size b (first b k)) × (size b (first b k) ≤ maxChoices)
-    rows-few = size-range s (first b k) (first-below-trains s k h)
-
-    columns-few : (1 ≤ size b (second b k)) × (size b (second b k) ≤ maxChoices)
-    columns-few = size-range s (second b k) (second-below-trains s k h)
-
-    pub pair-inside : entriesFrom b k + entries b k ≤ length l
-    pair-inside = omega (arith, pair-end b k h, w .count)
+    pub pair-inside : entriesFrom b k + pairEntries (shapeOf b) k ≤ length l
+    pair-inside = omega (arith, entries-part (shapeOf b) k (pairs b) h, w .count)
 
     pub row-inside : (a : ℕ) → a < size b (first b k) → entriesFrom b k + size b (second b k) * a + size b (second b k) ≤ length l
     row-inside a q = omega (arith, pair-inside, row-part (size b (first b k)) (size b (second b k)) a q)
 
-    pub rows-runs : WeightRuns l (entriesFrom b k) (size b (second b k)) 1 (size b (second b k)) (choicesBefore b (first b k)) (size b (first b k))
+    pub rows-runs : WeightRuns l (entriesFrom b k) (size b (second b k)) 1 (size b (second b k)) (choicesBefore (shapeOf b) (first b k)) (size b (first b k))
     rows-runs =
         record {
-          each = λ a q. run-of _ 1 (size b (second b k)) columns-few (λ c r. omega (arith, row-inside a q));
+          each = λ a q. run-of _ 1 (size b (second b k)) (columns-range s k h) (λ c r. omega (arith, row-inside a q));
           inside = train-inside (first b k) (first-below-trains s k h);
         }
 
-    pub columns-runs : WeightRuns l (entriesFrom b k) 1 (size b (second b k)) (size b (first b k)) (choicesBefore b (second b k)) (size b (second b k))
+    pub columns-runs : WeightRuns l (entriesFrom b k) 1 (size b (second b k)) (size b (first b k)) (choicesBefore (shapeOf b) (second b k)) (size b (second b k))
     columns-runs =
         record {
-          each = λ c q. run-of _ (size b (second b k)) (size b (first b k)) rows-few (λ a r. omega (arith, row-inside a r));
+          each = λ c q. run-of _ (size b (second b k)) (size b (first b k)) (rows-range s k h) (λ a r. omega (arith, row-inside a r));
           inside = train-inside (second b k) (second-below-trains s k h);
         }
 
@@ -118,11 +106,11 @@ module _ {b : List ℤ} (s : Study b) where
       sum-most n maxRun (trainWeighted b l)
       (λ i r. run-most l _ b _ (size b i) (omega (arith, train-sum i r)) (train-costs i (omega arith)) (size b i) (omega arith))
     where
-      train-sum : (i : ℕ) → i < n → runSum l (choicesBefore b i) 1 (size b i) ≡ fullWeight
+      train-sum : (i : ℕ) → i < n → runSum l (choicesBefore (shapeOf b) i) 1 (size b i) ≡ fullWeight
       train-sum i r = eqb-true _ _ (all-true (trainMatches b l fullWeight) n e i r)
 
 module _ {b : List ℤ} {l : List ℕ} (s : Study b) where
-  pub train-weights : WeightsFor b l → (i : ℕ) → i < trains b → runSum l (choicesBefore b i) 1 (size b i) ≤ maxFullWeight → WeightsWithin l (choicesBefore b i) b (heldChoicePlace i 0) (size b i)
+  pub train-weights : WeightsFor b l → (i : ℕ) → i < trains b → runSum l (choicesBefore (shapeOf b) i) 1 (size b i) ≤ maxFullWeight → WeightsWithin l (choicesBefore (shapeOf b) i) b (heldChoicePlace i 0) (size b i)
   train-weights w i h t =
       record {
         inside = train-inside s w i h;
@@ -137,7 +125,7 @@ module _ {b : List ℤ} {l : List ℕ} (s : Study b) where
     row-weights w a q =
         record {
           inside = row-inside s w k h a q;
-          places = omega (arith, s .whole, pairs-range s, rows-few s w k h, columns-few s w k h);
+          places = omega (arith, s .whole, pairs-range s, rows-range s k h, columns-range s k h);
           sum = t .sums a q;
           costs = row-costs s k h a q;
         }
@@ -156,11 +144,11 @@ module _ {b : List ℤ} {l : List ℕ} (s : Study b) where
         record {
           sums = λ a r.
               let i = first b k in
-              let m : runSum l (entriesFrom b k + size b (second b k) * a) 1 (size b (second b k)) ≡ getD l (choicesBefore b i + a) 0 = eqb-true _ _ (all-true _ (size b i) (both-true _ _ e .0) a r) in
+              let m : runSum l (entriesFrom b k + size b (second b k) * a) 1 (size b (second b k)) ≡ getD l (choicesBefore (shapeOf b) i + a) 0 = eqb-true _ _ (all-true _ (size b i) (both-true _ _ e .0) a r) in
               omega (
                 arith,
-                sum-term (size b i) a (λ c. getD l (choicesBefore b i + c) 0) r,
-                next-to l (choicesBefore b i) (size b i),
+                sum-term (size b i) a (λ c. getD l (choicesBefore (shapeOf b) i + c) 0) r,
+                next-to l (choicesBefore (shapeOf b) i) (size b i),
                 t .sums i (first-below-trains s k h),
               );
         }
@@ -181,32 +169,32 @@ module _ {b : List ℤ} {l : List ℕ} (s : Study b) where
 
 module _ (b : List ℤ) (fullWeight : ℕ) (l : List ℕ) where
   trains-same : all (trains b) (trainBalanced (shapeOf b) (weightsOf b fullWeight l)) ≡ trainsMatch b l fullWeight
-  unfolding trainBalanced trainsMatch shapeOf
-  trains-same = all-cong (trains b) _ _ (λ i h. ap (λ (v : ℕ). eqb v fullWeight) (sym (next-to l (choicesBefore b i) (size b i))))
+  unfolding trainBalanced trainsMatch
+  trains-same = all-cong (trains b) _ _ (λ i h. ap (λ (v : ℕ). eqb v fullWeight) (sym (next-to l (choicesBefore (shapeOf b) i) (size b i))))
 
   pair-same : (k : ℕ) → pairBalanced (shapeOf b) (weightsOf b fullWeight l) k ≡ pairMatches b l k
-  unfolding pairBalanced rowBalanced columnBalanced pairMatches shapeOf
+  unfolding pairBalanced rowBalanced columnBalanced pairMatches
   pair-same k =
       ap₂ _&&_
-      (all-cong (size b (first b k)) _ _ (λ a h. ap (λ (v : ℕ). eqb v (getD l (choicesBefore b (first b k) + a) 0))
+      (all-cong (size b (first b k)) _ _ (λ a h. ap (λ (v : ℕ). eqb v (getD l (choicesBefore (shapeOf b) (first b k) + a) 0))
       (sum-cong (size b (second b k)) _ _ (λ c q. ap (λ (p : ℕ). getD l p 0) (omega arith)))))
-      (all-cong (size b (second b k)) _ _ (λ c h. ap (λ (v : ℕ). eqb v (getD l (choicesBefore b (second b k) + c) 0))
+      (all-cong (size b (second b k)) _ _ (λ c h. ap (λ (v : ℕ). eqb v (getD l (choicesBefore (shapeOf b) (second b k) + c) 0))
       (sum-cong (size b (first b k)) _ _ (λ a q. ap (λ (p : ℕ). getD l p 0) (omega arith)))))
 
   pub balanced-runs : balanced (shapeOf b) (weightsOf b fullWeight l) ≡ trainsMatch b l fullWeight && pairsMatch b l
-  unfolding balanced pairsMatch shapeOf
+  unfolding balanced pairsMatch
   balanced-runs = ap₂ _&&_ trains-same (all-cong (pairs b) _ _ (λ k h. pair-same k))
 
   pub weighted-runs : ceiling b (weightsOf b fullWeight l) ≡ fullWeight * constant b + trainsWeighted b l + pairsWeighted b l
-  unfolding weighted overChoices overPairs shapeOf heldCosts trainsWeighted trainWeighted pairsWeighted pairWeighted rowWeighted
+  unfolding weighted overChoices overPairs heldCosts trainsWeighted trainWeighted pairsWeighted pairWeighted rowWeighted
   weighted-runs =
       ap₂ (λ (x y : ℕ). fullWeight * constant b + x + y)
-      (sum-cong (trains b) _ _ (λ i h. sum-cong (size b i) _ _ (λ a q. ap (λ (p : ℕ). getD l (choicesBefore b i + a) 0 * figure b p) (omega arith))))
+      (sum-cong (trains b) _ _ (λ i h. sum-cong (size b i) _ _ (λ a q. ap (λ (p : ℕ). getD l (choicesBefore (shapeOf b) i + a) 0 * figure b p) (omega arith))))
       (sum-cong (pairs b) _ _ (λ k h. sum-cong (size b (first b k)) _ _ (λ a q. sum-cong (size b (second b k)) _ _ (λ c r. ap₂ (λ (o p : ℕ). getD l o 0 * figure b p) (omega arith) (omega arith)))))
 
 -- a pair's runs, by the numbers that the code reads
 pub pair-by-runs : (b : List ℤ) (l : List ℕ) (k : ℕ) {i j rows columns from x y : ℕ} → i ≡ first b k → j ≡ second b k → rows ≡ size b i → columns ≡ size b j
-    → from ≡ entriesFrom b k → x ≡ choicesBefore b i → y ≡ choicesBefore b j
+    → from ≡ entriesFrom b k → x ≡ choicesBefore (shapeOf b) i → y ≡ choicesBefore (shapeOf b) j
     → pairMatches b l k ≡ runsMatch l from columns 1 columns x rows && runsMatch l from 1 columns rows y columns
 unfolding pairMatches
 pair-by-runs b l k p q r t f u v = rw (r, t, f, u, v, p, q)
@@ -216,7 +204,7 @@ pair-by-runs b l k p q r t f u v = rw (r, t, f, u, v, p, q)
 -- once the trains are judged, none sums to more than W
 pub trains-within : {b : List ℤ} {l : List ℕ} {fullWeight : ℕ} → fullWeight ≤ maxFullWeight → trainsMatch b l fullWeight ≡ true → TrainsWithin b l
 unfolding trainsMatch
-trains-within {b} {l} {fullWeight} h e = record { sums = λ i q. let t : runSum l (choicesBefore b i) 1 (size b i) ≡ fullWeight = eqb-true _ _ (all-true (trainMatches b l fullWeight) (trains b) e i q) in omega arith }
+trains-within {b} {l} {fullWeight} h e = record { sums = λ i q. let t : runSum l (choicesBefore (shapeOf b) i) 1 (size b i) ≡ fullWeight = eqb-true _ _ (all-true (trainMatches b l fullWeight) (trains b) e i q) in omega arith }
 
 -- a part was given where the sums agree, and none where they disagree
 pub part-given : (t : Bool) (x : ℕ) {y : ℕ} → cond t (Part x) Disagree ≡ Part y → (t ≡ true) × (y ≡ x)

@@ -6,11 +6,11 @@ use Prim.Native.Nat.{ℕ, _+_, _*_, _^_, _<_}
 use lib.Dec.{eqb}
 use lib.IntN.{ℤ}
 use lib.ListN.{length, getD}
-use Rattle.tables.specs.Sum.{sum}
-use Rattle.tables.specs.Range.{all}
+use Rattle.theory.specs.Sum.{sum}
+use Rattle.theory.specs.Range.{all}
 use Rattle.tables.specs.Block.{trains, pairs, constant, size, first, second}
-use Rattle.tables.specs.Runs.{choicesBefore, entriesBefore}
 use Rattle.tables.specs.Plans.{Shape, Costs, shapeOf, heldCosts}
+use Rattle.tables.specs.Counts.{choiceCount, weightCount, choiceIndex, entryIndex}
 use Rattle.certificates.specs.declared.certify.Certificate.{Certificate}
 use Rattle.certificates.specs.declared.certify.Certificate.the-variants.{Unbalanced, Balanced}
 
@@ -59,13 +59,13 @@ abbrev pub weightsOf : List ℤ → ℕ → List ℕ → Weights
 weightsOf b fullWeight l =
     record {
       fullWeight = fullWeight;
-      choice = λ i a. getD l (choicesBefore b i + a) 0;
-      pair = λ k a c. getD l (choicesBefore b (trains b) + (entriesBefore b k + (size b (second b k) * a + c))) 0;
+      choice = λ i a. getD l (choiceIndex (shapeOf b) i a) 0;
+      pair = λ k a c. getD l (choiceCount (shapeOf b) + entryIndex (shapeOf b) k a c) 0;
     }
 
 -- a line's weights: one for each choice and for each pair's two choices, none judged but by its 3 bytes
 pub record WeightsFor (b : List ℤ) (l : List ℕ) : Type 0 where
-  pub count : length l ≡ choicesBefore b (trains b) + entriesBefore b (pairs b)
+  pub count : length l ≡ weightCount (shapeOf b)
   pub small : (p : ℕ) → p < length l → getD l p 0 < weightsBelow
 
 -- E of a line's weights

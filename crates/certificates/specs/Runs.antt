@@ -6,11 +6,12 @@ use Prim.Native.Nat.{ℕ, _+_, _*_, _<_, _≤_}
 use lib.Dec.{eqb}
 use lib.IntN.{ℤ}
 use lib.ListN.{length, getD}
-use Rattle.tables.specs.Sum.{sum}
-use Rattle.tables.specs.Ranges.{maxFullWeight}
-use Rattle.tables.specs.Range.{all}
+use Rattle.theory.specs.Sum.{sum}
+use Rattle.theory.specs.Range.{all}
+use Rattle.tables.specs.LineLimits.{maxFullWeight}
 use Rattle.tables.specs.Block.{maxChoices, maxParts, heldChoicePlace, heldEntryPlace, figure, trains, pairs, size, first, second}
-use Rattle.tables.specs.Runs.{choicesBefore, entriesBefore}
+use Rattle.tables.specs.Plans.{shapeOf}
+use Rattle.tables.specs.Counts.{choicesBefore, choiceCount, entriesBefore}
 use Rattle.certificates.specs.declared.certify.Judged.{Judged}
 use Rattle.certificates.specs.declared.certify.Judged.the-variants.{Disagree, Part}
 use Rattle.certificates.specs.Certify.{weightsBelow}
@@ -54,17 +55,14 @@ pub record WeightRuns (l : List ℕ) (from apart step count choices runs : ℕ) 
 
 -- the weights of each train sum to W
 abbrev pub trainMatches : List ℤ → List ℕ → ℕ → ℕ → Bool
-trainMatches b l fullWeight i = eqb (runSum l (choicesBefore b i) 1 (size b i)) fullWeight
+trainMatches b l fullWeight i = eqb (runSum l (choicesBefore (shapeOf b) i) 1 (size b i)) fullWeight
 
 unfoldable pub trainsMatch : List ℤ → List ℕ → ℕ → Bool
 trainsMatch b l fullWeight = all (trains b) (trainMatches b l fullWeight)
 
--- how many entries pair k has, and where its weights begin
-abbrev pub entries : List ℤ → ℕ → ℕ
-entries b k = size b (first b k) * size b (second b k)
-
+-- where the weights of pair k begin
 abbrev pub entriesFrom : List ℤ → ℕ → ℕ
-entriesFrom b k = choicesBefore b (trains b) + entriesBefore b k
+entriesFrom b k = choiceCount (shapeOf b) + entriesBefore (shapeOf b) k
 
 pub record PairFrom (b : List ℤ) (k from : ℕ) : Type 0 where
   pub there : k < pairs b
@@ -73,15 +71,15 @@ pub record PairFrom (b : List ℤ) (k from : ℕ) : Type 0 where
 -- the rows of pair k sum to the weights of its first train, its columns to those of its second
 unfoldable pub pairMatches : List ℤ → List ℕ → ℕ → Bool
 pairMatches b l k =
-    runsMatch l (entriesFrom b k) (size b (second b k)) 1 (size b (second b k)) (choicesBefore b (first b k)) (size b (first b k))
-    && runsMatch l (entriesFrom b k) 1 (size b (second b k)) (size b (first b k)) (choicesBefore b (second b k)) (size b (second b k))
+    runsMatch l (entriesFrom b k) (size b (second b k)) 1 (size b (second b k)) (choicesBefore (shapeOf b) (first b k)) (size b (first b k))
+    && runsMatch l (entriesFrom b k) 1 (size b (second b k)) (size b (first b k)) (choicesBefore (shapeOf b) (second b k)) (size b (second b k))
 
 unfoldable pub pairsMatch : List ℤ → List ℕ → Bool
 pairsMatch b l = all (pairs b) (pairMatches b l)
 
 -- E's parts: the choices of train i, row a of pair k, and all of them
 unfoldable pub trainWeighted : List ℤ → List ℕ → ℕ → ℕ
-trainWeighted b l i = runWeighted l (choicesBefore b i) b (heldChoicePlace i 0) (size b i)
+trainWeighted b l i = runWeighted l (choicesBefore (shapeOf b) i) b (heldChoicePlace i 0) (size b i)
 
 unfoldable pub trainsWeighted : List ℤ → List ℕ → ℕ
 trainsWeighted b l = sum (trains b) (trainWeighted b l)
@@ -104,7 +102,7 @@ pairsJudged b l = cond (pairsMatch b l) (Part (pairsWeighted b l)) Disagree
 
 -- no train's weights, and no row's of pair k, sum to more than W may be: so it is once they have been judged
 pub record TrainsWithin (b : List ℤ) (l : List ℕ) : Type 0 where
-  pub sums : (i : ℕ) → i < trains b → runSum l (choicesBefore b i) 1 (size b i) ≤ maxFullWeight
+  pub sums : (i : ℕ) → i < trains b → runSum l (choicesBefore (shapeOf b) i) 1 (size b i) ≤ maxFullWeight
 
 pub record RowsWithin (b : List ℤ) (l : List ℕ) (k : ℕ) : Type 0 where
   pub sums : (a : ℕ) → a < size b (first b k) → runSum l (entriesFrom b k + size b (second b k) * a) 1 (size b (second b k)) ≤ maxFullWeight

@@ -1,12 +1,10 @@
 // Document 01, '05 certify'. Each train, then each pair, is judged before it is weighed: its weights are then at most W, so that E fits.
 ghost use mathlib.Core.Path.{_≡_};
 ghost use Prim.Native.Nat.{_<_, _≤_};
-ghost use Rattle.tables.specs.Block.{trains, pairs};
-ghost use Rattle.tables.specs.Ranges.{maxFullWeight};
+ghost use Rattle.tables.specs.LineLimits.{maxFullWeight};
 ghost use Rattle.tables.specs.WellFormed.{Study};
-ghost use Rattle.tables.specs.Runs.{choicesBefore};
 ghost use Rattle.certificates.specs.Certify.{WeightsFor, weightsOf, certificate};
-ghost use Rattle.certificates.specs.Runs.{runSum, WeightRun, runWeighted, WeightsWithin, runsMatch, WeightRuns, trainsJudged, entries, PairFrom, pairMatches, pairWeighted, pairsJudged, TrainsWithin, RowsWithin};
+ghost use Rattle.certificates.specs.Runs.{runSum, WeightRun, runWeighted, WeightsWithin, runsMatch, WeightRuns, trainsJudged, PairFrom, pairMatches, pairWeighted, pairsJudged, TrainsWithin, RowsWithin};
 use tables::block;
 use tables::block::Block;
 use tables::places;
@@ -139,30 +137,6 @@ fn trains_judged(b: &[i64], weights: &[u64], full: u64) -> Judged
 
 // ---- the pairs
 
-// Where the weights of train i begin.
-fn choice_start(b: &[i64], i: usize) -> usize
-    requires { ⌜ Study (now b) ⌝ }
-    requires { ⌜ i ≤ trains (now b) ⌝ }
-    ensures { λ r. ⌜ r ≡ choicesBefore (now (b .entry)) i ⌝ }
-{
-    let mut start = 0;
-    let mut k = 0;
-    while k < i {
-        start += block::size(b, k);
-        k += 1;
-    }
-    start
-}
-
-// How many entries pair k has.
-fn entries(b: &[i64], k: usize) -> usize
-    requires { ⌜ Study (now b) ⌝ }
-    requires { ⌜ k < pairs (now b) ⌝ }
-    ensures { λ r. ⌜ r ≡ entries (now (b .entry)) k ⌝ }
-{
-    block::size(b, block::first(b, k)) * block::size(b, block::second(b, k))
-}
-
 // Whether the rows of pair k, whose weights begin at `from`, sum to the weights of its first train, and its columns to those of its second.
 fn pair_matches(b: &[i64], weights: &[u64], k: usize, from: usize) -> bool
     requires { ⌜ Study (now b) ⌝ }
@@ -174,10 +148,12 @@ fn pair_matches(b: &[i64], weights: &[u64], k: usize, from: usize) -> bool
     let j = block::second(b, k);
     let rows = block::size(b, i);
     let columns = block::size(b, j);
-    if !runs_match(weights, from, columns, 1, columns, choice_start(b, i), rows) {
+    let first_from = counts::choices_before(b, i);
+    if !runs_match(weights, from, columns, 1, columns, first_from, rows) {
         return false;
     }
-    runs_match(weights, from, 1, columns, rows, choice_start(b, j), columns)
+    let second_from = counts::choices_before(b, j);
+    runs_match(weights, from, 1, columns, rows, second_from, columns)
 }
 
 // The part that pair k, whose weights begin at `from`, has in E.
@@ -188,8 +164,8 @@ fn pair_weighted(b: &[i64], weights: &[u64], k: usize, from: usize) -> u64
     requires { ⌜ PairFrom (now b) k from ⌝ }
     ensures { λ r. ⌜ r ≡ pairWeighted (now (b .entry)) (now (weights .entry)) k ⌝ }
 {
-    let rows = block::size(b, block::first(b, k));
-    let columns = block::size(b, block::second(b, k));
+    let rows = counts::rows_of(b, k);
+    let columns = counts::columns_of(b, k);
     let mut sum = 0;
     let mut a = 0;
     while a < rows {
@@ -209,14 +185,14 @@ fn pairs_judged(b: &[i64], weights: &[u64]) -> Judged
 {
     let m = block::pairs(b);
     let mut sum = 0;
-    let mut from = choice_start(b, block::trains(b));
+    let mut from = counts::choice_count(b);
     let mut k = 0;
     while k < m {
         if !pair_matches(b, weights, k, from) {
             return Judged::Disagree;
         }
         sum += pair_weighted(b, weights, k, from);
-        from += entries(b, k);
+        from += counts::pair_entries(b, k);
         k += 1;
     }
     Judged::Part(sum)

@@ -5,34 +5,34 @@ use mathlib.Core.Bool.{Bool, true, false, cond, _&&_}
 use mathlib.Core.List.{List, [], _∷_, _++_}
 use mathlib.Core.Logic.{_⊎_, inl, inr}
 use Prim.Native.Nat.{ℕ, _≤_}
-use lib.Dec.{eqb}
 use lib.IntN.{ℤ}
 use lib.ListN.{length}
-use Rattle.tables.specs.Range.{pass}
-use Rattle.tables.specs.WellFormed.{isZero, fresh, wellFormed, freshBlock}
-use Rattle.tables.proofs.Range.{not-both, both-true}
+use Rattle.theory.specs.Range.{pass}
+use Rattle.theory.proofs.Range.{not-both, both-true}
+use Rattle.tables.specs.WellFormed.{isZero, wellFormed, freshBlock, isFresh}
 use Rattle.tables.proofs.Study.{study-well-formed}
+use Rattle.lines.specs.declared.kind.NewKind.the-variants.{Known}
 use Rattle.lines.specs.declared.request.Request.{Request}
 use Rattle.lines.specs.declared.request.Request.the-variants.{Load, Add, Shift, Tighten, Certify, Search}
-use Rattle.lines.specs.Kinds.{kindNumber, requestKind}
+use Rattle.lines.specs.Kinds.{newKind, requestKind}
 use Rattle.lines.specs.Layout.{kindOf}
 use Rattle.reader.proofs.LineAccepted.{Makes, line-makes}
-use Rattle.reader.proofs.LineKind.{line-kind}
-use Rattle.replies.specs.Wrote.{longestFixed}
+use Rattle.reader.proofs.LineKind.{line-known}
+use Rattle.replies.specs.Replies.{longestFixed}
 use Rattle.requests.specs.Answer.{Answer, requested, lineAnswer}
 use Rattle.requests.proofs.LineCases.{line-cases}
 use Rattle.service.specs.Answer.{answer}
 use Rattle.service.specs.Calls.{Call, Exchange, exchange, lastBlock, blocks, exchanges}
 use Rattle.service.proofs.AnswerCases.{fixed-fit, answer-cases}
 use Rattle.service.proofs.Lists.{nextAnswer, exchanges-more}
-use Rattle.claims.specs.Ledger.{Ledger, accepted, fed, ledgerOf, emptyLedger, hasLoad}
+use Rattle.claims.specs.Ledger.{Ledger, accepted, byKind, loads, fed, ledgerOf, emptyLedger, hasLoad}
 use Rattle.claims.specs.Claims.{AtCall, EachCall}
 use Rattle.claims.proofs.Keeps.{Keeps}
-use Rattle.claims.proofs.ReadBack.{empty-refused, refusal-refused}
 use Rattle.claims.proofs.Steps.{fed-refused, Good, line-allowed, declined-call, empty-call, good-load, good-line, good-call}
+use Rattle.claims.proofs.Accepted.{empty-refused, refusal-refused}
 
-fresh-is : fresh freshBlock ≡ true
-unfolding fresh pass isZero
+fresh-is : isFresh freshBlock ≡ true
+unfolding isFresh pass isZero
 fresh-is = refl
 
 right-fresh : wellFormed freshBlock ≡ true
@@ -50,10 +50,10 @@ state-right (inr k) = study-well-formed (k .study)
 
 -- ---- one call
 
--- of a call that had the block b and the answer a: the state afterwards, in which an accepted line leaves block and ledger together, and what is claimed of it
+-- of a call that had the block b and the answer a: the state afterwards, in which an accepted load leaves block and ledger together, and what is claimed of it
 pub record Called (g : Ledger) (b : List ℤ) (l : List ℕ) (a : Answer) : Type 0 where
   pub state : State (fed (exchange l (a .reply)) g) (a .block)
-  pub kept : accepted (a .reply) ≡ true → Keeps (fed (exchange l (a .reply)) g) (a .block)
+  pub kept : accepted (a .reply) && byKind loads false l ≡ true → Keeps (fed (exchange l (a .reply)) g) (a .block)
   pub call : AtCall (fed (exchange l (a .reply)) g) b (exchange l (a .reply))
 
 called-good : {g : Ledger} {b : List ℤ} {l : List ℕ} {a : Answer} → Good g b l a → Called g b l a
@@ -62,11 +62,11 @@ called-good w = record { state = inr (w .keeps); kept = λ y. w .keeps; call = w
 module _ (g : Ledger) (l : List ℕ) where
   -- a fresh block, and a reply that is not accepted
   called-quiet : (reply : List ℕ) → accepted reply ≡ false → AtCall g freshBlock (exchange l reply) → Called g freshBlock l (record { block = freshBlock; reply = reply })
-  called-quiet reply e c = record { state = inl refl; kept = λ y. absurd (not-both y e); call = rw (fed-refused g l reply e) c }
+  called-quiet reply e c = record { state = inl refl; kept = λ y. absurd (not-both (both-true (accepted reply) (byKind loads false l) y .0) e); call = rw (fed-refused g l reply e) c }
 
   -- on a fresh block only a load is asked
-  new-request : (q : Request) → Makes l freshBlock q → kindOf l ≡ kindNumber (requestKind q) → Good g freshBlock l (requested q l freshBlock)
-  new-request (Load q) m e = subst (λ (s : Request). Good g freshBlock l (requested s l freshBlock)) (sym (m .0)) (good-load g l freshBlock e (m .1))
+  new-request : (q : Request) → Makes l freshBlock q → newKind (kindOf l) ≡ Known (requestKind q) → Called g freshBlock l (requested q l freshBlock)
+  new-request (Load q) m e = called-good (subst (λ (s : Request). Good g freshBlock l (requested s l freshBlock)) (sym (m .0)) (good-load g l freshBlock e (m .1)))
   new-request (Add q) m e = absurd (not-both fresh-is (m .2))
   new-request (Shift q) m e = absurd (not-both fresh-is (m .2))
   new-request Tighten m e = absurd (not-both fresh-is (m .2))
@@ -77,7 +77,7 @@ module _ (g : Ledger) (l : List ℕ) where
   line-new room h =
       line-cases l freshBlock room h right-fresh (Called g freshBlock l)
       (λ r e. called-quiet _ (refusal-refused r) (declined-call g freshBlock l r (line-allowed l freshBlock r e)))
-      (λ q a. called-good (new-request q (line-makes l freshBlock q (a .asked) .1) (line-kind l freshBlock q (a .asked))))
+      (λ q a. new-request q (line-makes l freshBlock q (a .asked) .1) (line-known l freshBlock q (a .asked)))
 
   called-new : (buffer : List ℕ) → Called g freshBlock l (answer l freshBlock buffer)
   called-new buffer =
@@ -111,7 +111,7 @@ kept-from k (c ∷ cs) = kept-from (good-call k (c .line) (c .buffer) .keeps) cs
 pub loaded-from : {g : Ledger} {b : List ℤ} → State g b → (cs : List Call) → hasLoad (exchanges b cs) ≡ true → Keeps (ledgerOf g (exchanges b cs)) (lastBlock b cs)
 unfolding exchanges ledgerOf lastBlock hasLoad
 loaded-from s [] y = absurd (not-both y refl)
-loaded-from {g} {b} s (c ∷ cs) y = go (accepted (a .reply) && eqb (kindOf (c .line)) 1) refl y (loaded-from (w .state) cs)
+loaded-from {g} {b} s (c ∷ cs) y = go (accepted (a .reply) && byKind loads false (c .line)) refl y (loaded-from (w .state) cs)
   where
     a : Answer
     a = answer (c .line) b (c .buffer)
@@ -119,10 +119,10 @@ loaded-from {g} {b} s (c ∷ cs) y = go (accepted (a .reply) && eqb (kindOf (c .
     w : Called g b (c .line) a
     w = called s (c .line) (c .buffer)
 
-    go : (t : Bool) → accepted (a .reply) && eqb (kindOf (c .line)) 1 ≡ t → cond t true (hasLoad (exchanges (a .block) cs)) ≡ true
+    go : (t : Bool) → accepted (a .reply) && byKind loads false (c .line) ≡ t → cond t true (hasLoad (exchanges (a .block) cs)) ≡ true
         → (hasLoad (exchanges (a .block) cs) ≡ true → Keeps (ledgerOf (fed (exchange (c .line) (a .reply)) g) (exchanges (a .block) cs)) (lastBlock (a .block) cs))
         → Keeps (ledgerOf (fed (exchange (c .line) (a .reply)) g) (exchanges (a .block) cs)) (lastBlock (a .block) cs)
-    go true e y others = kept-from (w .kept (both-true (accepted (a .reply)) (eqb (kindOf (c .line)) 1) e .0)) cs
+    go true e y others = kept-from (w .kept e) cs
     go false e y others = others y
 
 pub each-from : {g : Ledger} {b : List ℤ} → State g b → (cs : List Call) → EachCall g (blocks b cs) (exchanges b cs)

@@ -3,38 +3,38 @@ use mathlib.Core.Path.{_≡_, refl}
 use mathlib.Core.Bool.{true, false}
 use mathlib.Core.List.{List, []}
 use mathlib.Core.Logic.{_⊎_, inl, inr}
-use Prim.Native.Nat.{ℕ, _<_, _≤_}
-use native.Mathlib.Omega.{arith}
+use Prim.Native.Nat.{ℕ, _≤_}
 use lib.IntN.{ℤ}
 use lib.ListN.{length}
+use Rattle.theory.proofs.Range.{not-both}
+use Rattle.refusals.specs.declared.Refusal.{Refusal}
+use Rattle.refusals.specs.declared.Refusal.the-variants.{Sums, Malformed}
+use Rattle.refusals.specs.declared.Verdict.{Verdict}
+use Rattle.refusals.specs.declared.Verdict.the-variants.{Fine, Declined}
 use Rattle.tables.specs.Block.{trains}
 use Rattle.tables.specs.WellFormed.{wellFormed}
-use Rattle.tables.proofs.Range.{not-both}
-use Rattle.operations.specs.declared.outcome.Outcome.{Outcome}
-use Rattle.operations.specs.declared.outcome.Outcome.the-variants.{Done, CostAbove as cost-above, PartsOutside as parts-outside}
-use Rattle.operations.specs.Add.{addOutcome, addBlock}
+use Rattle.operations.specs.Add.{added, addOutcome}
 use Rattle.operations.specs.Load.{loadedBlock}
-use Rattle.shift.specs.Shift.{shiftOutcome, shiftBlock}
-use Rattle.tighten.specs.Tighten.{tightenOutcome, tightenBlock}
+use Rattle.shift.specs.Shift.{shifted, shiftOutcome}
+use Rattle.tighten.specs.Tighten.{tightened, tightenOutcome}
 use Rattle.certificates.specs.declared.certify.Certificate.{Certificate}
 use Rattle.certificates.specs.declared.certify.Certificate.the-variants.{Unbalanced, Balanced}
 use Rattle.certificates.specs.Certify.{weightsOf, certificate}
 use Rattle.frames.specs.Runs.{runOf, signedRunOf}
-use Rattle.lines.specs.declared.refusal.Refusal.{Refusal}
-use Rattle.lines.specs.declared.refusal.Refusal.the-variants.{CostAbove, PartsOutside, Sums, Malformed}
+use Rattle.lines.specs.declared.kind.Kind.{Kind}
+use Rattle.lines.specs.declared.kind.Kind.the-variants as kind
 use Rattle.lines.specs.declared.request.Request.{Request}
 use Rattle.lines.specs.declared.request.Request.the-variants.{Load, Add, Shift, Tighten, Certify, Search}
 use Rattle.lines.specs.Layout.{moveWidth, weightWidth}
-use Rattle.lines.specs.Numbers.{numbersOf}
+use Rattle.decoding.specs.Numbers.{numbersOf}
 use Rattle.search.specs.Answer.{searchAnswer}
-use Rattle.replies.specs.Replies.{refusalReply}
-use Rattle.replies.specs.Wrote.{longestFixed}
+use Rattle.replies.specs.Replies.{refusalReply, longestFixed}
 use Rattle.requests.specs.Answer.{Answer, declined, operated, certified, requested, lineAnswer}
 use Rattle.requests.proofs.LineCases.{line-cases}
 use Rattle.service.specs.Answer.{answer}
 use Rattle.service.proofs.AnswerCases.{fixed-fit, answer-cases}
 use Rattle.claims.specs.Ledger.{accepted}
-use Rattle.claims.proofs.ReadBack.{bound-accepted, certify-accepted, search-accepted}
+use Rattle.claims.proofs.Accepted.{bound-accepted, certify-accepted, search-accepted}
 
 -- a declined answer: the block is as it was, and the reply is empty (17) or a refusal's two bytes
 pub record Refuses (reply : List ℕ) : Type 0 where
@@ -52,10 +52,9 @@ Either b a = (accepted (a .reply) ≡ true) ⊎ Declines b a
 either-declined : (b : List ℤ) (r : Refusal) → Either b (declined b r)
 either-declined b r = inr (record { block = refl; reply = inr (record { refusal = r; is = refl }) })
 
-either-operated : (kind : ℕ) (o : Outcome) (old new : List ℤ) → kind < 100 → Either old (operated kind o old new)
-either-operated kind Done old new h = inl (bound-accepted kind new h)
-either-operated kind cost-above old new h = either-declined old CostAbove
-either-operated kind parts-outside old new h = either-declined old PartsOutside
+either-operated : (kind : Kind) (v : Verdict) (old new : List ℤ) → Either old (operated kind v old new)
+either-operated kind Fine old new = inl (bound-accepted kind new)
+either-operated kind (Declined r) old new = either-declined old r
 
 either-certified : (fullWeight : ℕ) (c : Certificate) (b : List ℤ) → Either b (certified fullWeight c b)
 either-certified fullWeight Unbalanced b = either-declined b Sums
@@ -64,13 +63,13 @@ either-certified fullWeight (Balanced c) b = inl (certify-accepted fullWeight c)
 module _ (l : List ℕ) (b : List ℤ) where
   either-requested : (q : Request) → Either b (requested q l b)
   unfolding requested
-  either-requested (Load q) = inl (bound-accepted 1 (loadedBlock (numbersOf l)) (omega arith))
-  either-requested (Add q) = either-operated 2 (addOutcome (q .train) (q .choice) (q .points .0) b) b (addBlock (q .train) (q .choice) (q .points .0) b) (omega arith)
+  either-requested (Load q) = inl (bound-accepted kind.Load (loadedBlock (numbersOf l)))
+  either-requested (Add q) = either-operated kind.Add (addOutcome (q .train) (q .choice) (q .points .0) b) b (added (q .train) (q .choice) (q .points .0) b)
   either-requested (Shift q) =
       let lifts = signedRunOf l (q .lifts .at) moveWidth (q .lifts .count) in
       let moves = signedRunOf l (q .moves .at) moveWidth (q .moves .count) in
-      either-operated 3 (shiftOutcome lifts moves b) b (shiftBlock lifts moves b) (omega arith)
-  either-requested Tighten = either-operated 4 (tightenOutcome b) b (tightenBlock b) (omega arith)
+      either-operated kind.Shift (shiftOutcome lifts moves b) b (shifted lifts moves b)
+  either-requested Tighten = either-operated kind.Tighten (tightenOutcome b) b (tightened b)
   either-requested (Certify q) = either-certified (q .full) (certificate b (weightsOf b (q .full) (runOf l (q .weights .at) weightWidth (q .weights .count)))) b
   either-requested (Search q) = inl (search-accepted (trains b) (searchAnswer b (q .budget)))
 

@@ -6,13 +6,12 @@ use Prim.Native.Nat.{ℕ, _+_, _*_, _≤_}
 use native.Mathlib.Omega.{arith}
 use lib.IntN.{ℤ}
 use Rattle.tables.specs.Block.{maxTrains, maxPairs, maxCost, scale}
-use Rattle.tables.specs.Plans.{shapeOf, heldTotal, IsPlan}
+use Rattle.tables.specs.Plans.{choicesOf, shapeOf, heldTotal, IsPlan}
 use Rattle.certificates.specs.declared.certify.Certificate.the-variants.{Balanced}
 use Rattle.certificates.specs.declared.certify.Ceiling.{Ceiling}
 use Rattle.certificates.specs.Certify.{Weights, certificate}
 use Rattle.certificates.specs.Rival.{Rival, IsRival, ConstantAtMost}
 use Rattle.certificates.proofs.Ceilings.{certify-rival, rival-cong, rival-alike}
-use Rattle.rows.specs.Added.{choicesOf}
 use Rattle.search.specs.Answer.{searchAnswer}
 use Rattle.search.proofs.Theorems.{answer-plan, answer-cost, answer-least}
 use Rattle.claims.specs.Ledger.{Ledger, costOf}
@@ -33,14 +32,14 @@ module _ {g : Ledger} {b : List ℤ} (k : Keeps g b) where
 
   module _ (budget : ℕ) where
     -- a plan that is known is one of the ledger's, and its cost is shown
-    pub known-plan : searchAnswer b budget .known ≡ true → PlanOf g (choicesOf (searchAnswer b budget .plan)) × (searchAnswer b budget .cost .0 ≡ costOf g (choicesOf (searchAnswer b budget .plan)))
+    pub known-plan : searchAnswer b budget .found ≡ true → PlanOf g (choicesOf (searchAnswer b budget .plan)) × (searchAnswer b budget .cost .0 ≡ costOf g (choicesOf (searchAnswer b budget .plan)))
     known-plan e =
         let x = choicesOf (searchAnswer b budget .plan) in
         let p = answer-plan (k .study) budget e in
         (plan-out k x p, answer-cost (k .study) budget e (costOf g x) (points x p))
 
     -- a cost that is shown is far below the characters FF
-    pub known-low : searchAnswer b budget .known ≡ true → searchAnswer b budget .cost .0 ≤ (maxTrains + maxPairs) * maxCost
+    pub known-low : searchAnswer b budget .found ≡ true → searchAnswer b budget .cost .0 ≤ (maxTrains + maxPairs) * maxCost
     known-low e =
         let x = choicesOf (searchAnswer b budget .plan) in
         let p = answer-plan (k .study) budget e in
@@ -48,7 +47,7 @@ module _ {g : Ledger} {b : List ℤ} (k : Keeps g b) where
 
     -- an ended search knows a plan, and no plan costs less
     pub ended-least : searchAnswer b budget .ended ≡ true
-        → (searchAnswer b budget .known ≡ true) × ((x : ℕ → ℕ) → PlanOf g x → searchAnswer b budget .cost .0 ≤ costOf g x)
+        → (searchAnswer b budget .found ≡ true) × ((x : ℕ → ℕ) → PlanOf g x → searchAnswer b budget .cost .0 ≤ costOf g x)
     ended-least e =
         let f = answer-least (k .study) budget e in
         (f .0, λ x p. f .1 x (plan-in k x p) (costOf g x) (points x (plan-in k x p)))

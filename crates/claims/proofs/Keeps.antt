@@ -5,13 +5,13 @@ use Prim.Native.Nat.{ℕ, _+_, _*_, _<_, _≤_}
 use native.Mathlib.Omega.{arith}
 use native.Mathlib.Nat.{mul-le-mul}
 use lib.IntN.{ℤ}
+use Rattle.theory.proofs.Sum.{sum-most}
 use Rattle.units.proofs.Bound.{rounded-least}
 use Rattle.tables.specs.Block.{maxTrains, maxPairs, maxCost, maxParts, trains, scale, pairs, constant, first, second, loadedEntry}
 use Rattle.tables.specs.WellFormed.{Study}
 use Rattle.tables.specs.Plans.{Shape, Costs, IsPlan, choiceTotal, pairTotal, total, shapeOf, loadedCosts, heldCosts, loadedTotal, heldTotal}
 use Rattle.tables.proofs.Plans.{study-shaped, plan-first, plan-second, total-cong, constant-at-most-total, alike-back, alike-plan, alike-total}
 use Rattle.tables.proofs.Study.{trains-range, scale-range, pairs-range, first-below-trains, second-below-trains, loaded-choice-range, loaded-entry-range}
-use Rattle.tables.proofs.Sum.{sum-most}
 use Rattle.replies.specs.Replies.{boundOf}
 use Rattle.claims.specs.Ledger.{Ledger, costOf}
 use Rattle.claims.specs.Claims.{PlanOf, scaledCost, SameStudy, AfterList}
@@ -33,7 +33,7 @@ module _ {g : Ledger} {b : List ℤ} (k : Keeps g b) where
 
   -- a plan's cost by the ledger is its total in H
   pub cost-is : (x : ℕ → ℕ) → IsPlan (shapeOf b) x → costOf g x ≡ loadedTotal b x
-  unfolding IsPlan shapeOf loadedCosts
+  unfolding IsPlan loadedCosts
   cost-is x p =
       let sh = study-shaped (k .study) in
       sym (alike-total (k .same .shape-same) (g .costs) x)
@@ -70,11 +70,11 @@ total-most s t x n m zero choices entries =
 
 -- a cost of a plan's pair is within its limit
 pub entry-most : {b : List ℤ} → Study b → (x : ℕ → ℕ) → IsPlan (shapeOf b) x → (j : ℕ) → j < pairs b → loadedEntry b j (x (first b j)) (x (second b j)) ≤ maxCost
-unfolding IsPlan shapeOf
+unfolding IsPlan
 entry-most {b} s x p j h = loaded-entry-range s j h _ _ (p (first b j) (first-below-trains s j h)) (p (second b j) (second-below-trains s j h)) .high
 
 pub loaded-total-most : {b : List ℤ} → Study b → (x : ℕ → ℕ) → IsPlan (shapeOf b) x → loadedTotal b x ≤ (maxTrains + maxPairs) * maxCost
-unfolding IsPlan shapeOf loadedCosts
+unfolding IsPlan loadedCosts
 loaded-total-most {b} s x p =
     total-most (shapeOf b) (loadedCosts b) x (trains-range s .1) (pairs-range s) refl (λ i h. loaded-choice-range s i (x i) h (p i h) .high) (entry-most s x p)
 

@@ -10,7 +10,7 @@ use lib.IntN.{ℤ}
 use lib.ListN.{length}
 use borrow.Author.Tests.{eq-eqb, ne-eqb}
 use Rattle.tables.specs.Block.{trains, scale, pairs, size, first, second, loadedChoicePlace, loadedEntryPlace, at, loadedChoice, loadedEntry}
-use Rattle.tables.specs.Numbers.{Numbers, InRange}
+use Rattle.tables.specs.Numbers.{Numbers, numbersCosts, InRange}
 use Rattle.tables.specs.WellFormed.{Study}
 use Rattle.tables.specs.Plans.{AlikeShapes, IsPlan, shapeOf, loadedCosts, loadedTotal, heldTotal}
 use Rattle.tables.proofs.Plans.{total-cong, alike-back, alike-then, alike-plan, same-shape-alike, same-shape-total}
@@ -19,16 +19,16 @@ use Rattle.operations.specs.Load.{loadedBlock}
 use Rattle.operations.specs.Add.{added}
 use Rattle.operations.proofs.Loaded.{load-study, load-total, load-trains, load-scale, load-pairs, load-size, load-first, load-second, load-loaded-choice, load-loaded-entry}
 use Rattle.operations.proofs.Added.{add-same-shape, add-choice, add-choice-kept, add-entry-kept, add-loaded-total, add-loaded-total-kept, add-held-total, add-held-total-kept}
-use Rattle.rewriting.proofs.Reach.{Loaded}
+use Rattle.rewriting.proofs.Shape.{Moved, Any}
+use Rattle.rewriting.proofs.Rewritten.{rewrites-shape, rewrites-loaded, rewrites-total}
 use Rattle.lines.specs.Layout.{addTrain, addChoice, addPoints}
-use Rattle.claims.specs.Ledger.{Ledger, numbersShape, numbersCosts, addedLedger}
+use Rattle.claims.specs.Ledger.{Ledger, numbersLedger, addedLedger}
 use Rattle.claims.proofs.Keeps.{Keeps}
 
 -- ---- load
 
 -- the ledger of the numbers of a load
-pub load-keeps : (l : Numbers) → InRange l → Keeps (record { scale = l .scale; shape = numbersShape l; costs = numbersCosts l }) (loadedBlock l)
-unfolding shapeOf
+pub load-keeps : (l : Numbers) → InRange l → Keeps (numbersLedger l) (loadedBlock l)
 load-keeps l r =
     record {
       study = load-study r;
@@ -83,7 +83,6 @@ module _ {g : Ledger} {b c : List ℤ} (k : Keeps g b) (s : Study c) (e : SameSh
       → ((i a : ℕ) → i < trains b → a < size b i → loadedChoice c i a ≡ h .costs .choice i a)
       → ((j a d : ℕ) → j < pairs b → a < size b (first b j) → d < size b (second b j) → loadedEntry c j a d ≡ h .costs .pair j a d)
       → ((x : ℕ → ℕ) → IsPlan (shapeOf b) x → heldTotal c x ≡ scale b * loadedTotal c x) → Keeps h c
-  unfolding shapeOf
   keeps-from h shape scales zero choices entries totals =
       record {
         study = s;
@@ -116,30 +115,29 @@ module _ {g : Ledger} {b c : List ℤ} (k : Keeps g b) (s : Study c) (e : SameSh
 
 -- ---- shift and tighten
 
--- a block of the same shape with the same H, in which every plan keeps its total, keeps the ledger
-pub rewritten-keeps : {g : Ledger} {b c : List ℤ} → Keeps g b → Study c → SameShape b c → ((p : ℕ) → Loaded p → at c p ≡ at b p)
-    → ((x : ℕ → ℕ) → IsPlan (shapeOf b) x → heldTotal c x ≡ heldTotal b x) → Keeps g c
-unfolding IsPlan shapeOf loadedCosts
-rewritten-keeps {g} {b} {c} k s e loaded kept =
-    keeps-from k s e g refl refl (k .no-constant) (λ i a h q. choice i a h q ∙ k .same .choices-same i a h q) (λ j a d h p q. entry j a d h p q ∙ k .same .entries-same j a d h p q)
-    (λ x p. kept x p ∙ k .scaled x p ∙ ap (λ (v : ℕ). scale b * v) (sym (same-total x p)))
+-- a rewriting has the same shape and the same H, and every plan keeps its total: it keeps the ledger
+pub rewritten-keeps : {g : Ledger} {b c : List ℤ} {n : ℕ} → Keeps g b → Study c → Moved Any b n c → Keeps g c
+unfolding IsPlan loadedCosts
+rewritten-keeps {g} {b} {c} k s r =
+    keeps-from k s (rewrites-shape (k .study) r) g refl refl (k .no-constant) (λ i a h q. choice i a h q ∙ k .same .choices-same i a h q) (λ j a d h p q. entry j a d h p q ∙ k .same .entries-same j a d h p q)
+    (λ x p. rewrites-total (k .study) r s x p ∙ k .scaled x p ∙ ap (λ (v : ℕ). scale b * v) (sym (same-total x p)))
   where
     choice : (i a : ℕ) → i < trains b → a < size b i → loadedChoice c i a ≡ loadedChoice b i a
     choice i a h q =
         let w = size-range (k .study) i h in
         let n = trains-range (k .study) in
-        same-figure b c (loadedChoicePlace i a) (loaded (loadedChoicePlace i a) (record { table = inl (record { low = omega arith; high = omega arith }) }))
+        same-figure b c (loadedChoicePlace i a) (rewrites-loaded (k .study) r (loadedChoicePlace i a) (record { table = inl (record { low = omega arith; high = omega arith }) }))
 
     entry : (j a d : ℕ) → j < pairs b → a < size b (first b j) → d < size b (second b j) → loadedEntry c j a d ≡ loadedEntry b j a d
     entry j a d h p q =
         let u = size-range (k .study) (first b j) (first-below-trains (k .study) j h) in
         let v = size-range (k .study) (second b j) (second-below-trains (k .study) j h) in
         let m = pairs-range (k .study) in
-        same-figure b c (loadedEntryPlace j a d) (loaded (loadedEntryPlace j a d) (record { table = inr (record { low = omega arith; high = omega arith }) }))
+        same-figure b c (loadedEntryPlace j a d) (rewrites-loaded (k .study) r (loadedEntryPlace j a d) (record { table = inr (record { low = omega arith; high = omega arith }) }))
 
     same-total : (x : ℕ → ℕ) → IsPlan (shapeOf b) x → loadedTotal c x ≡ loadedTotal b x
     same-total x p =
-        same-shape-total e (k .study) (loadedCosts c) x
+        same-shape-total (rewrites-shape (k .study) r) (k .study) (loadedCosts c) x
         ∙ total-cong (shapeOf b) (loadedCosts c) (loadedCosts b) x refl (λ i h. choice i (x i) h (p i h))
         (λ j h. entry j (x (first b j)) (x (second b j)) h (p (first b j) (first-below-trains (k .study) j h)) (p (second b j) (second-below-trains (k .study) j h)))
 

@@ -1,5 +1,6 @@
 -- The laws of the crate: one file for each idea.
-pub mod ReadBack
+pub mod Accepted
+pub mod ByKind
 pub mod Declined
 pub mod Shifts
 pub mod Lines

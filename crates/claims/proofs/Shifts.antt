@@ -1,34 +1,40 @@
 -- A shift line and the block afterwards, from the line's own characters: u_i and the moves are the numbers that stand at their offsets, and the block that an accepted line leaves
 -- has document 01's three equations by them. 12 is answered exactly where one of these numbers would be below 0 or above L.
-use mathlib.Core.Path.{_≡_, refl, ap, _∙_}
-use mathlib.Core.Bool.{Bool, true, false, cond}
+use mathlib.Core.Path.{_≡_, refl, ap, _∙_, subst}
+use mathlib.Core.Bool.{Bool, true, false}
 use mathlib.Core.List.{List}
 use mathlib.Core.Logic.{_↔_}
 use Prim.Native.Nat.{ℕ, _<_, _≤_}
-use native.Mathlib.Omega.{arith}
 use lib.IntN.{ℤ, pos}
 use lib.ListN.{length}
+use Rattle.theory.proofs.Range.{not-both}
+use Rattle.theory.proofs.Lists.{list-nth}
+use Rattle.refusals.specs.declared.Refusal.the-variants.{PartsOutside, Malformed}
+use Rattle.refusals.specs.declared.Verdict.{Verdict}
+use Rattle.refusals.specs.declared.Verdict.the-variants.{Declined}
+use Rattle.refusals.specs.Verdicts.{unless}
 use Rattle.tables.specs.Block.{constantPlace, heldChoicePlace, heldEntryPlace, at, trains, pairs, size, first, second}
 use Rattle.tables.specs.WellFormed.{holdsStudy, Study}
-use Rattle.tables.proofs.Range.{not-both}
+use Rattle.tables.specs.Plans.{shapeOf}
+use Rattle.tables.specs.Counts.{moveCount}
 use Rattle.tables.proofs.Study.{study-of}
-use Rattle.operations.specs.declared.outcome.Outcome.{Outcome}
-use Rattle.operations.specs.declared.outcome.Outcome.the-variants.{Done, PartsOutside as parts-outside}
 use Rattle.rewriting.specs.Ends.{Ends, endsOf, SameEnds, Outside, SomeEnd}
-use Rattle.shift.specs.Shift.{shifted, shiftOutcome, shiftBlock}
+use Rattle.shift.specs.Shift.{shifted, shiftOutcome}
 use Rattle.shift.specs.Equations.{constantEnd, choiceEnd, entryEnd, shiftEnds}
 use Rattle.shift.proofs.Equations.{shifted-ends, shift-declined}
 use Rattle.frames.specs.Runs.{signedRunOf}
-use Rattle.frames.proofs.Lists.{list-nth}
-use Rattle.lines.specs.declared.refusal.Refusal.the-variants.{PartsOutside, Malformed}
+use Rattle.lines.specs.declared.kind.Kind.{Kind}
+use Rattle.lines.specs.declared.kind.Kind.the-variants as kind
+use Rattle.lines.specs.declared.kind.NewKind.the-variants.{Known}
 use Rattle.lines.specs.declared.request.Shift as declared-shift
 use Rattle.lines.specs.declared.request.Request.{Request}
-use Rattle.lines.specs.declared.request.Request.the-variants.{Load, Add, Shift, Tighten, Certify, Search}
-use Rattle.lines.specs.Kinds.{kindNumber, requestKind}
-use Rattle.lines.specs.Layout.{kindOf, moveWidth, liftsAt, movesAt, shiftLift, shiftMove}
-use Rattle.reader.specs.Reading.{moveCount}
+use Rattle.lines.specs.declared.request.Request.the-variants.{Shift}
+use Rattle.lines.specs.Kinds.{kindNumber, newKind, requestKind}
+use Rattle.lines.specs.Layout.{kindOf, moveWidth, shiftLift, shiftMove, liftField, moveField}
+use Rattle.lines.proofs.KindNumbers.{number-kind}
+use Rattle.kinds.specs.Lines.{kindRequest}
 use Rattle.reader.proofs.LineAccepted.{Makes, line-makes}
-use Rattle.reader.proofs.LineKind.{line-kind}
+use Rattle.reader.proofs.LineKind.{line-known}
 use Rattle.replies.specs.Replies.{refusalReply}
 use Rattle.requests.specs.Answer.{operated, requested}
 use Rattle.requests.specs.Wrote.{Asks}
@@ -37,7 +43,7 @@ use Rattle.service.specs.Answer.{minBuffer, answer}
 use Rattle.service.proofs.AnswerCases.{fixed-fit, answer-cases}
 use Rattle.service.proofs.Calls.{answered-line}
 use Rattle.claims.specs.Ledger.{accepted}
-use Rattle.claims.proofs.ReadBack.{empty-refused, refusal-refused, bound-accepted}
+use Rattle.claims.proofs.Accepted.{empty-refused, refusal-refused, bound-accepted}
 
 -- where a shift line's own numbers lead
 abbrev pub lineEnds : List ℕ → List ℤ → Ends
@@ -64,10 +70,10 @@ accepted-asks l b buffer =
 
 module _ (l : List ℕ) (b : List ℤ) (buffer : List ℕ) (h : minBuffer ≤ length buffer) (q : declared-shift.Shift) (a : Asks l b (Shift q) (length buffer)) where
   abbrev lifts : List ℤ
-  lifts = signedRunOf l liftsAt moveWidth (trains b)
+  lifts = signedRunOf l (liftField .at) moveWidth (trains b)
 
   abbrev moves : List ℤ
-  moves = signedRunOf l (movesAt (trains b)) moveWidth (moveCount b)
+  moves = signedRunOf l (moveField (trains b) .at) moveWidth (moveCount (shapeOf b))
 
   made : Makes l b (Shift q)
   made = line-makes l b (Shift q) (a .asked) .1
@@ -75,7 +81,7 @@ module _ (l : List ℕ) (b : List ℤ) (buffer : List ℕ) (h : minBuffer ≤ le
   study : Study b
   study = study-of b (a .right) (made .2)
 
-  answer-is : answer l b buffer ≡ operated 3 (shiftOutcome lifts moves b) b (shiftBlock lifts moves b)
+  answer-is : answer l b buffer ≡ operated kind.Shift (shiftOutcome lifts moves b) b (shifted lifts moves b)
   unfolding requested
   answer-is =
       answered-line l b buffer h (a .right)
@@ -86,15 +92,15 @@ module _ (l : List ℕ) (b : List ℤ) (buffer : List ℕ) (h : minBuffer ≤ le
   lift-is : (i : ℕ) → i < trains b → at lifts i ≡ shiftLift l i
   lift-is i h = list-nth (shiftLift l) (pos 0) (trains b) i h
 
-  move-is : (n : ℕ) → n < moveCount b → at moves n ≡ shiftMove l (trains b) n
-  move-is n h = list-nth (shiftMove l (trains b)) (pos 0) (moveCount b) n h
+  move-is : (n : ℕ) → n < moveCount (shapeOf b) → at moves n ≡ shiftMove l (trains b) n
+  move-is n h = list-nth (shiftMove l (trains b)) (pos 0) (moveCount (shapeOf b)) n h
 
   -- an accepted one leaves its own numbers
   asked-ends : accepted (answer l b buffer .reply) ≡ true → SameEnds b (endsOf (answer l b buffer .block)) (lineEnds l b)
   asked-ends = rw answer-is (go (holdsStudy (shifted lifts moves b)))
     where
-      go : (t : Bool) → accepted (operated 3 (cond t Done parts-outside) b (cond t (shifted lifts moves b) b) .reply) ≡ true
-          → SameEnds b (endsOf (operated 3 (cond t Done parts-outside) b (cond t (shifted lifts moves b) b) .block)) (lineEnds l b)
+      go : (t : Bool) → accepted (operated kind.Shift (unless t PartsOutside) b (shifted lifts moves b) .reply) ≡ true
+          → SameEnds b (endsOf (operated kind.Shift (unless t PartsOutside) b (shifted lifts moves b) .block)) (lineEnds l b)
       go true y = shifted-ends study lifts moves (shiftLift l) (shiftMove l (trains b)) lift-is move-is
       go false y = absurd (not-both y (refusal-refused PartsOutside))
 
@@ -103,27 +109,25 @@ module _ (l : List ℕ) (b : List ℤ) (buffer : List ℕ) (h : minBuffer ≤ le
   shift-line-declined =
       let d = shift-declined study lifts moves (shiftLift l) (shiftMove l (trains b)) lift-is move-is in
       rw answer-is
-      ((λ e. d .0 (go (holdsStudy (shifted lifts moves b)) e)), (λ w. ap (λ (o : Outcome). operated 3 o b (shiftBlock lifts moves b) .reply) (d .1 w)))
+      ((λ e. d .0 (go (holdsStudy (shifted lifts moves b)) e)), (λ w. ap (λ (o : Verdict). operated kind.Shift o b (shifted lifts moves b) .reply) (d .1 w)))
     where
-      go : (t : Bool) → operated 3 (cond t Done parts-outside) b (cond t (shifted lifts moves b) b) .reply ≡ refusalReply PartsOutside → cond t Done parts-outside ≡ parts-outside
-      go true e = absurd (not-both (bound-accepted 3 (shifted lifts moves b) (omega arith)) (ap accepted e ∙ refusal-refused PartsOutside))
+      go : (t : Bool) → operated kind.Shift (unless t PartsOutside) b (shifted lifts moves b) .reply ≡ refusalReply PartsOutside → unless t PartsOutside ≡ Declined PartsOutside
+      go true e = absurd (not-both (bound-accepted kind.Shift (shifted lifts moves b)) (ap accepted e ∙ refusal-refused PartsOutside))
       go false e = refl
 
 -- 'c0 grows by the sum of u_i', and the other two equations: the block that an accepted line of kind 03 leaves
-pub shift-line : (l : List ℕ) (b : List ℤ) (buffer : List ℕ) → kindOf l ≡ 3 → accepted (answer l b buffer .reply) ≡ true
+pub shift-line : (l : List ℕ) (b : List ℤ) (buffer : List ℕ) → kindOf l ≡ kindNumber kind.Shift → accepted (answer l b buffer .reply) ≡ true
     → SameEnds b (endsOf (answer l b buffer .block)) (lineEnds l b)
-shift-line l b buffer k y = let w = accepted-asks l b buffer y in go (w .large) (w .request) (w .asks) (line-kind l b (w .request) (w .asks .asked))
-  where
-    go : minBuffer ≤ length buffer → (q : Request) → Asks l b q (length buffer) → kindOf l ≡ kindNumber (requestKind q) → SameEnds b (endsOf (answer l b buffer .block)) (lineEnds l b)
-    go h (Load q) a e = absurd (omega arith)
-    go h (Add q) a e = absurd (omega arith)
-    go h (Shift q) a e = asked-ends l b buffer h q a y
-    go h Tighten a e = absurd (omega arith)
-    go h (Certify q) a e = absurd (omega arith)
-    go h (Search q) a e = absurd (omega arith)
+shift-line l b buffer k y =
+    let w = accepted-asks l b buffer y in
+    let known : newKind (kindOf l) ≡ Known kind.Shift = ap newKind k ∙ number-kind kind.Shift in
+    let own = line-known l b (w .request) (w .asks .asked) in
+    let same : requestKind (w .request) ≡ kind.Shift = cc in
+    let made = line-makes l b (w .request) (w .asks .asked) .1 .0 ∙ ap (λ (j : Kind). kindRequest j l b) same in
+    asked-ends l b buffer (w .large) _ (subst (λ (r : Request). Asks l b r (length buffer)) made (w .asks)) y
 
 -- the three equations, each by itself
-module _ (l : List ℕ) (b : List ℤ) (buffer : List ℕ) (k : kindOf l ≡ 3) (y : accepted (answer l b buffer .reply) ≡ true) where
+module _ (l : List ℕ) (b : List ℤ) (buffer : List ℕ) (k : kindOf l ≡ kindNumber kind.Shift) (y : accepted (answer l b buffer .reply) ≡ true) where
   pub shift-constant : at (answer l b buffer .block) constantPlace ≡ constantEnd (shiftLift l) b
   shift-constant = shift-line l b buffer k y .constant
 

@@ -1,69 +1,76 @@
 -- One call: it keeps block and ledger together, and what is claimed of it holds.
 use mathlib.Core.Path.{_≡_, refl, sym, ap, subst, _∙_}
-use mathlib.Core.Bool.{Bool, true, false, cond}
+use mathlib.Core.Bool.{Bool, true, false}
 use mathlib.Core.List.{List, []}
-use mathlib.Core.Logic.{inl, inr, dite}
+use mathlib.Core.Logic.{dite}
 use Prim.Native.Nat.{ℕ, _+_, _*_, _<_, _≤_, _^_}
 use native.Mathlib.Decide.{ℕ-discrete, decLt}
 use native.Mathlib.Omega.{arith}
 use lib.IntN.{ℤ}
 use lib.ListN.{length}
-use borrow.Author.Tests.{eq-eqb, ne-eqb}
+use Rattle.theory.proofs.Range.{not-both}
 use Rattle.units.proofs.Bound.{rounded-most}
+use Rattle.refusals.specs.declared.Refusal.{Refusal}
+use Rattle.refusals.specs.declared.Refusal.the-variants.{CostAbove, PartsOutside, Sums}
+use Rattle.refusals.specs.declared.Verdict.{Verdict}
+use Rattle.refusals.specs.declared.Verdict.the-variants.{Fine}
+use Rattle.refusals.specs.Refusals.{refusalNumber}
+use Rattle.refusals.specs.Verdicts.{unless}
 use Rattle.tables.specs.Block.{maxTrains, maxPairs, maxCost, trains, scale, constant, size, first, second, loadedChoice}
-use Rattle.tables.specs.Ranges.{maxFullWeight}
+use Rattle.tables.specs.LineLimits.{maxFullWeight}
 use Rattle.tables.specs.WellFormed.{holdsStudy, Study}
 use Rattle.tables.specs.Plans.{IsPlan, shapeOf, loadedCosts, loadedTotal}
+use Rattle.tables.specs.Counts.{moveCount, weightCount}
 use Rattle.tables.proofs.Plans.{study-shaped, alike-inside, same-shape-total}
-use Rattle.tables.proofs.Range.{not-both}
-use Rattle.tables.proofs.Study.{holds-study, study-well-formed, trains-range, scale-range, pairs-range, constant-range, size-range, loaded-choice-range}
-use Rattle.operations.specs.declared.outcome.Outcome.{Outcome}
-use Rattle.operations.specs.declared.outcome.Outcome.the-variants.{Done, CostAbove as cost-above, PartsOutside as parts-outside}
-use Rattle.operations.specs.Add.{added, addOutcome, addBlock}
+use Rattle.tables.proofs.Study.{study-well-formed, trains-range, scale-range, pairs-range, constant-range, size-range, loaded-choice-range}
+use Rattle.operations.specs.Add.{added, addOutcome}
 use Rattle.operations.specs.Load.{loadedBlock}
-use Rattle.operations.proofs.Added.{add-done, add-study, add-within, add-same-shape, add-choice, add-choice-kept, add-entry-kept, cost-above as above-cost}
+use Rattle.operations.proofs.Added.{add-study, add-within, add-same-shape, add-choice, add-choice-kept, add-entry-kept, cost-above as above-cost}
+use Rattle.rewriting.proofs.Rewritten.{rewrites-holds}
 use Rattle.shift.specs.Shift.{shifted}
-use Rattle.shift.proofs.Ends.{shift-same-shape, shift-loaded, shift-keeps-total}
+use Rattle.shift.proofs.Ends.{shift-rewrites}
 use Rattle.tighten.specs.Tighten.{tightened}
-use Rattle.tighten.proofs.Ends.{tighten-same-shape, tighten-loaded, tighten-keeps-total, tighten-within}
+use Rattle.tighten.proofs.Ends.{tighten-rewrites, tighten-within}
 use Rattle.certificates.specs.declared.certify.Certificate.{Certificate}
 use Rattle.certificates.specs.declared.certify.Certificate.the-variants.{Unbalanced, Balanced}
 use Rattle.certificates.specs.Certify.{weightsOf, certificate}
 use Rattle.certificates.proofs.Ceilings.{certify-ceiling, certify-fits}
 use Rattle.frames.specs.Runs.{runOf, signedRunOf}
-use Rattle.lines.specs.declared.refusal.Refusal.{Refusal}
-use Rattle.lines.specs.declared.refusal.Refusal.the-variants.{CostAbove, PartsOutside, Sums}
+use Rattle.lines.specs.declared.kind.Kind.{Kind}
+use Rattle.lines.specs.declared.kind.Kind.the-variants as kind
+use Rattle.lines.specs.declared.kind.NewKind.the-variants.{Known}
 use Rattle.lines.specs.declared.request.Request.{Request}
 use Rattle.lines.specs.declared.request.Request.the-variants.{Load, Add, Shift, Tighten, Certify, Search}
 use Rattle.lines.specs.declared.request.Line.the-variants.{Refused}
-use Rattle.lines.specs.declared.request.Verdict.the-variants.{Fine}
-use Rattle.lines.specs.Kinds.{kindNumber, requestKind}
-use Rattle.lines.specs.Layout.{kindOf, moveWidth, weightWidth, weightsAt, liftsAt, movesAt, addTrain, addChoice, addPoints, certifyFullWeight, searchBudget}
-use Rattle.lines.specs.Numbers.{numbersOf}
-use Rattle.lines.specs.Refusals.{refusalNumber}
-use Rattle.lines.specs.Verdicts.{loadVerdict, loadRequest}
-use Rattle.lines.proofs.LoadRange.{load-in-range}
-use Rattle.reader.specs.Reading.{addRequest, moveCount, weightCount, shiftRequest, certifyRequest, searchRequest, lineOf}
-use Rattle.reader.proofs.Accepted.{add-fine, certify-fine}
+use Rattle.lines.specs.Kinds.{newKind, requestKind}
+use Rattle.lines.specs.Layout.{kindOf, moveWidth, weightWidth, addTrain, addChoice, addPoints, certifyFullWeight, searchBudget, weightField, liftField, moveField}
+use Rattle.kinds.specs.Load.{loadVerdict, loadRequest}
+use Rattle.kinds.specs.Lines.{addRequest, shiftRequest, certifyRequest, searchRequest}
+use Rattle.kinds.proofs.Accepted.{add-fine, certify-fine}
+use Rattle.decoding.specs.Numbers.{numbersOf}
+use Rattle.decoding.proofs.LoadRange.{load-in-range}
+use Rattle.reader.specs.Reading.{lineOf}
 use Rattle.reader.proofs.LineAccepted.{Makes, line-makes, add-there}
-use Rattle.reader.proofs.LineKind.{line-kind}
+use Rattle.reader.proofs.LineKind.{line-known}
 use Rattle.reader.proofs.LineRefused.{ofReading, line-refused}
 use Rattle.search.specs.Answer.{searchAnswer}
 use Rattle.search.proofs.Theorems.{search-entries}
-use Rattle.replies.specs.Replies.{refusalReply, figureWidth, boundOf, boundReply, certifyReply, searchReply}
-use Rattle.replies.specs.Wrote.{longestFixed}
+use Rattle.replies.specs.Replies.{refusalReply, replyKind, figureWidth, boundOf, boundReply, certifyReply, searchReply, longestFixed}
+use Rattle.replies.specs.Shown.{kindShown}
+use Rattle.replies.proofs.ReadBack.{bound-kind, certify-kind, search-kind}
 use Rattle.requests.specs.Answer.{Answer, answered, declined, operated, certified, requested, lineAnswer}
 use Rattle.requests.proofs.LineCases.{line-cases}
 use Rattle.service.specs.Answer.{answer}
 use Rattle.service.specs.Calls.{exchange}
 use Rattle.service.proofs.AnswerCases.{fixed-fit, answer-cases}
-use Rattle.claims.specs.Ledger.{Ledger, accepted, loadedLedger, addedLedger, fed}
-use Rattle.claims.specs.Claims.{outside, malformed, AddOrTighten, AtCall}
+use Rattle.claims.specs.Ledger.{Ledger, accepted, byKind, changed, fed}
+use Rattle.claims.specs.Claims.{outside, malformed, BoundClaim, Claim, neverOutside, AtCall}
+use Rattle.claims.proofs.ByKind.{by-kind}
 use Rattle.claims.proofs.Found.{ceiling-holds, known-plan, known-low, ended-least}
 use Rattle.claims.proofs.Keeps.{Keeps, bound-low, total-most, entry-most, scaled-most, held-total-most}
 use Rattle.claims.proofs.Kept.{load-keeps, rewritten-keeps, add-scaled, add-keeps}
-use Rattle.claims.proofs.Lines.{at-refused, other-refusal, empty-shows, at-bound, at-ceiling, Right, at-search}
-use Rattle.claims.proofs.ReadBack.{empty-refused, refusal-refused, bound-accepted, certify-accepted, search-accepted}
+use Rattle.claims.proofs.Lines.{at-refused, at-accepted, other-refusal, empty-shows, bound-claim, ceiling-claim, Right, search-claim}
+use Rattle.claims.proofs.Accepted.{empty-refused, refusal-refused, kind-accepted}
 
 -- ---- what the ledger makes of a line
 
@@ -72,17 +79,9 @@ module _ (g : Ledger) (l reply : List ℕ) where
   unfolding fed
   fed-refused e = rw e
 
-  pub fed-load : accepted reply ≡ true → kindOf l ≡ 1 → fed (exchange l reply) g ≡ loadedLedger l
+  pub fed-kind : (k : Kind) → accepted reply ≡ true → newKind (kindOf l) ≡ Known k → fed (exchange l reply) g ≡ changed k l g
   unfolding fed
-  fed-load e k = rw (e, eq-eqb (kindOf l) 1 k)
-
-  pub fed-add : accepted reply ≡ true → kindOf l ≡ 2 → fed (exchange l reply) g ≡ addedLedger l g
-  unfolding fed
-  fed-add e k = rw (e, ne-eqb (kindOf l) 1 (λ q. omega arith), eq-eqb (kindOf l) 2 k)
-
-  pub fed-other : accepted reply ≡ true → 3 ≤ kindOf l → fed (exchange l reply) g ≡ g
-  unfolding fed
-  fed-other e k = rw (e, ne-eqb (kindOf l) 1 (λ q. omega arith), ne-eqb (kindOf l) 2 (λ q. omega arith))
+  fed-kind k e known = rw (e, known)
 
 -- ---- a good call
 
@@ -95,11 +94,17 @@ pub record Good (g : Ledger) (b : List ℤ) (l : List ℕ) (a : Answer) : Type 0
 good-by : (g h : Ledger) (b : List ℤ) (l : List ℕ) (a : Answer) → fed (exchange l (a .reply)) g ≡ h → Keeps h (a .block) → AtCall h b (exchange l (a .reply)) → Good g b l a
 good-by g h b l a e k c = record { keeps = rw e k; call = rw e c }
 
+-- an accepted line of kind k, which is answered under k: by the ledger as k changes it
+good-kind : (g : Ledger) (b : List ℤ) (l : List ℕ) (k : Kind) (a : Answer) → newKind (kindOf l) ≡ Known k → kindShown (a .reply) ≡ replyKind k → Keeps (changed k l g) (a .block)
+    → Claim k (changed k l g) b (exchange l (a .reply)) → Good g b l a
+good-kind g b l k a known shown keeps claim =
+    good-by g (changed k l g) b l a (fed-kind g l (a .reply) k (kind-accepted k (a .reply) shown) known) keeps (at-accepted (changed k l g) b l (a .reply) k known shown claim)
+
 -- ---- declined calls
 
 -- a refusal that no claim excludes: not 16, and to an addition or a tightening not 12
 pub record Allowed (l : List ℕ) (r : Refusal) : Type 0 where
-  pub not-outside : AddOrTighten l → refusalNumber r ≡ outside → ⊥
+  pub not-outside : byKind neverOutside false l ≡ true → refusalNumber r ≡ outside → ⊥
   pub not-malformed : refusalNumber r ≡ malformed → ⊥
 
 -- what the reader declines
@@ -127,54 +132,48 @@ good-declined {g} {b} k l r w = good-by g g b l (declined b r) (fed-refused g l 
 bound-fits : {b : List ℤ} → Study b → boundOf b < 256 ^ figureWidth
 bound-fits {b} s = omega (arith, rounded-most (scale b) (scale-range s .0) (constant b), constant-range s)
 
-good-bound : (g h : Ledger) (old : List ℤ) (l : List ℕ) (kind : ℕ) (b : List ℤ) → kindOf l ≡ kind → kind ≤ 4 → fed (exchange l (boundReply kind b)) g ≡ h → Keeps h b
-    → Good g old l (answered b (boundReply kind b))
-good-bound g h old l kind b m q e k = good-by g h old l (answered b (boundReply kind b)) e k (at-bound h old l kind b m q (bound-fits (k .study)) (bound-low k))
+-- of a kind that claims no more
+good-bound : (g : Ledger) (old : List ℤ) (l : List ℕ) (k : Kind) (b : List ℤ) → newKind (kindOf l) ≡ Known k
+    → (BoundClaim (changed k l g) (exchange l (boundReply k b)) → Claim k (changed k l g) old (exchange l (boundReply k b))) → Keeps (changed k l g) b → Good g old l (answered b (boundReply k b))
+good-bound g old l k b known claim keeps =
+    good-kind g old l k (answered b (boundReply k b)) known (bound-kind k b) keeps (claim (bound-claim (changed k l g) l k b (bound-fits (keeps .study)) (bound-low keeps)))
 
 -- ---- load, on any block
 
-pub good-load : (g : Ledger) (l : List ℕ) (b : List ℤ) → kindOf l ≡ 1 → loadVerdict l ≡ Fine → Good g b l (requested (loadRequest l) l b)
+pub good-load : (g : Ledger) (l : List ℕ) (b : List ℤ) → newKind (kindOf l) ≡ Known kind.Load → loadVerdict l ≡ Fine → Good g b l (requested (loadRequest l) l b)
 unfolding requested
-good-load g l b k v =
-    let n = loadedBlock (numbersOf l) in
-    good-bound g (loadedLedger l) b l 1 n k (omega arith) (fed-load g l (boundReply 1 n) (bound-accepted 1 n (omega arith)) k) (load-keeps (numbersOf l) (load-in-range l v))
+good-load g l b e v = good-bound g b l kind.Load (loadedBlock (numbersOf l)) e (λ c. c) (load-keeps (numbersOf l) (load-in-range l v))
 
 -- ---- the other kinds
 
 module _ {g : Ledger} {b : List ℤ} (k : Keeps g b) (l : List ℕ) where
   -- a shift
-  good-shift : kindOf l ≡ 3 → Good g b l (requested (shiftRequest (trains b) (moveCount b)) l b)
+  good-shift : newKind (kindOf l) ≡ Known kind.Shift → Good g b l (requested (shiftRequest (trains b) (moveCount (shapeOf b))) l b)
   unfolding requested
   good-shift e = go (holdsStudy (shifted lifts moves b)) refl
     where
       lifts : List ℤ
-      lifts = signedRunOf l liftsAt moveWidth (trains b)
+      lifts = signedRunOf l (liftField .at) moveWidth (trains b)
 
       moves : List ℤ
-      moves = signedRunOf l (movesAt (trains b)) moveWidth (moveCount b)
+      moves = signedRunOf l (moveField (trains b) .at) moveWidth (moveCount (shapeOf b))
 
-      go : (t : Bool) → holdsStudy (shifted lifts moves b) ≡ t → Good g b l (operated 3 (cond t Done parts-outside) b (cond t (shifted lifts moves b) b))
+      go : (t : Bool) → holdsStudy (shifted lifts moves b) ≡ t → Good g b l (operated kind.Shift (unless t PartsOutside) b (shifted lifts moves b))
       go true h =
           let c = shifted lifts moves b in
-          let s = holds-study c (shift-same-shape (k .study) lifts moves .whole ∙ k .study .whole) h in
-          good-bound g g b l 3 c e (omega arith) (fed-other g l (boundReply 3 c) (bound-accepted 3 c (omega arith)) (omega arith))
-          (rewritten-keeps k s (shift-same-shape (k .study) lifts moves) (shift-loaded (k .study) lifts moves) (shift-keeps-total (k .study) lifts moves s))
-      go false h = good-declined k l PartsOutside (record { not-outside = λ w _. other w; not-malformed = λ q. omega arith })
-        where
-          other : AddOrTighten l → ⊥
-          other (inl z) = omega arith
-          other (inr z) = omega arith
+          let v = shift-rewrites (k .study) lifts moves in
+          good-bound g b l kind.Shift c e (λ d. d) (rewritten-keeps k (rewrites-holds (k .study) v h) v)
+      go false h = good-declined k l PartsOutside (record { not-outside = λ w _. not-both w (by-kind neverOutside false l e); not-malformed = λ q. omega arith })
 
   -- a tightening is always done
-  good-tighten : kindOf l ≡ 4 → Good g b l (requested Tighten l b)
+  good-tighten : newKind (kindOf l) ≡ Known kind.Tighten → Good g b l (requested Tighten l b)
   unfolding requested
   good-tighten e =
       let c = tightened b in
       let h = tighten-within (k .study) (held-total-most k) in
-      let s = holds-study c (tighten-same-shape (k .study) .whole ∙ k .study .whole) h in
+      let v = tighten-rewrites (k .study) in
       rw h
-      (good-bound g g b l 4 c e (omega arith) (fed-other g l (boundReply 4 c) (bound-accepted 4 c (omega arith)) (omega arith))
-      (rewritten-keeps k s (tighten-same-shape (k .study)) (tighten-loaded (k .study)) (tighten-keeps-total (k .study))))
+      (good-bound g b l kind.Tighten c e (λ d. d) (rewritten-keeps k (rewrites-holds (k .study) v h) v))
 
   -- ---- an addition
 
@@ -192,56 +191,53 @@ module _ {g : Ledger} {b : List ℤ} (k : Keeps g b) (l : List ℕ) where
         (λ n. omega (arith, add-choice-kept (k .study) (addTrain l) (addChoice l) (addPoints l) there in-size j c h q (λ w. absurd (n w)), loaded-choice-range (k .study) j c h q .high))
 
     sum-loaded : loadedChoice b (addTrain l) (addChoice l) + addPoints l ≤ maxCost → (x : ℕ → ℕ) → IsPlan (shapeOf b) x → loadedTotal sum-block x ≤ (maxTrains + maxPairs) * maxCost
-    unfolding shapeOf loadedCosts IsPlan
+    unfolding loadedCosts IsPlan
     sum-loaded low x p =
         rw (same-shape-total (add-same-shape (k .study) (addTrain l) (addChoice l) (addPoints l) there in-size) (k .study) (loadedCosts sum-block) x)
         (total-most (shapeOf b) (loadedCosts sum-block) x (trains-range (k .study) .1) (pairs-range (k .study)) refl (λ i h. sum-choice low i (x i) h (p i h))
         (λ j h. omega (arith, add-entry-kept (k .study) (addTrain l) (addChoice l) (addPoints l) there in-size j (x (first b j)) (x (second b j)), entry-most (k .study) x p j h)))
 
-    -- 12 is never the answer
-    never-outside : addOutcome (addTrain l) (addChoice l) (addPoints l) b ≡ parts-outside → ⊥
-    never-outside e =
+    -- 12 is never the answer: within the highest cost the addition is done
+    within-done : loadedChoice b (addTrain l) (addChoice l) + addPoints l ≤ maxCost → addOutcome (addTrain l) (addChoice l) (addPoints l) b ≡ Fine
+    within-done low =
+        add-within (k .study) (addTrain l) (addChoice l) (addPoints l) there in-size low
+        (λ x p. rw (add-scaled k (addTrain l) (addChoice l) (addPoints l) there in-size x p) (scaled-most (k .study) (loadedTotal sum-block x) (sum-loaded low x p)))
+
+    good-added : newKind (kindOf l) ≡ Known kind.Add → Good g b l (requested (addRequest l) l b)
+    unfolding requested
+    good-added e =
         dite (decLt maxCost (loadedChoice b (addTrain l) (addChoice l) + addPoints l))
         (λ (h : maxCost < loadedChoice b (addTrain l) (addChoice l) + addPoints l).
-        let w = above-cost (addTrain l) (addChoice l) (addPoints l) b h .0 in
-        let z : _≡_ {A = ℕ} 0 1 = cc in omega arith)
+        by (above-cost (addTrain l) (addChoice l) (addPoints l) b h .0) (good-declined k l CostAbove (record { not-outside = λ w q. omega arith; not-malformed = λ q. omega arith })))
         (λ n.
-        let low : loadedChoice b (addTrain l) (addChoice l) + addPoints l ≤ maxCost = omega arith in
-        let d = add-within (k .study) (addTrain l) (addChoice l) (addPoints l) there in-size low
-        (λ x p. rw (add-scaled k (addTrain l) (addChoice l) (addPoints l) there in-size x p) (scaled-most (k .study) (loadedTotal sum-block x) (sum-loaded low x p))) in
-        let z : _≡_ {A = ℕ} 0 1 = cc in omega arith)
-
-    good-added : kindOf l ≡ 2 → Good g b l (requested (addRequest l) l b)
-    unfolding requested
-    good-added e = go (addOutcome (addTrain l) (addChoice l) (addPoints l) b) refl
+        let d = within-done (omega arith) in
+        by (sym d)
+        (good-bound g b l kind.Add sum-block e (λ c. c)
+        (add-keeps l k there in-size (rw d at (add-study (k .study) (addTrain l) (addChoice l) (addPoints l) there in-size)))))
       where
-        go : (o : Outcome) → addOutcome (addTrain l) (addChoice l) (addPoints l) b ≡ o → Good g b l (operated 2 o b (addBlock (addTrain l) (addChoice l) (addPoints l) b))
-        go Done h =
-            let f = add-done (addTrain l) (addChoice l) (addPoints l) b h in
-            rw f
-            (good-bound g (addedLedger l g) b l 2 sum-block e (omega arith) (fed-add g l (boundReply 2 sum-block) (bound-accepted 2 sum-block (omega arith)) e)
-            (add-keeps l k there in-size (rw f at (add-study (k .study) (addTrain l) (addChoice l) (addPoints l) there in-size))))
-        go cost-above h = good-declined k l CostAbove (record { not-outside = λ w q. omega arith; not-malformed = λ q. omega arith })
-        go parts-outside h = absurd (never-outside h)
+        by : {v : Verdict} → v ≡ addOutcome (addTrain l) (addChoice l) (addPoints l) b → Good g b l (operated kind.Add v b sum-block)
+            → Good g b l (requested (addRequest l) l b)
+        by q x = subst (λ (v : Verdict). Good g b l (operated kind.Add v b sum-block)) q x
 
   -- ---- certificates and searches change nothing
 
-  good-certify : kindOf l ≡ 5 → (1 ≤ certifyFullWeight l) × (certifyFullWeight l ≤ maxFullWeight) → Good g b l (requested (certifyRequest l (weightCount b)) l b)
+  good-certify : newKind (kindOf l) ≡ Known kind.Certify → (1 ≤ certifyFullWeight l) × (certifyFullWeight l ≤ maxFullWeight) → Good g b l (requested (certifyRequest l (weightCount (shapeOf b))) l b)
   unfolding requested
   good-certify e low = go (certificate b (weightsOf b (certifyFullWeight l) weights)) refl
     where
       weights : List ℕ
-      weights = runOf l weightsAt weightWidth (weightCount b)
+      weights = runOf l (weightField .at) weightWidth (weightCount (shapeOf b))
 
       go : (c : Certificate) → certificate b (weightsOf b (certifyFullWeight l) weights) ≡ c → Good g b l (certified (certifyFullWeight l) c b)
       go Unbalanced h = good-declined k l Sums (record { not-outside = λ w q. omega arith; not-malformed = λ q. omega arith })
       go (Balanced c) h =
           let w = certify-ceiling b (weightsOf b (certifyFullWeight l) weights) h in
-          good-by g g b l (answered b (certifyReply (certifyFullWeight l) c)) (fed-other g l (certifyReply (certifyFullWeight l) c) (certify-accepted (certifyFullWeight l) c) (omega arith)) k
-          (at-ceiling g b l (certifyFullWeight l) c e (low .0) (omega (arith, low .1)) (omega (arith, certify-fits (certifyFullWeight l) weights (k .study) (low .1) h)) (rw (w .shown) (w .reached)) (ceiling-holds k (weightsOf b (certifyFullWeight l) weights) h))
+          good-kind g b l kind.Certify (answered b (certifyReply (certifyFullWeight l) c)) e (certify-kind (certifyFullWeight l) c) k
+          (ceiling-claim g b l (certifyFullWeight l) c (low .0) (omega (arith, low .1)) (omega (arith, certify-fits (certifyFullWeight l) weights (k .study) (low .1) h)) (rw (w .shown) (w .reached))
+          (ceiling-holds k (weightsOf b (certifyFullWeight l) weights) h))
 
   found-right : (budget : ℕ) → Right g (trains b) (searchAnswer b budget)
-  unfolding shapeOf searchAnswer
+  unfolding searchAnswer
   found-right budget =
       record {
         trains = k .same .shape-same .trains-same;
@@ -252,26 +248,25 @@ module _ {g : Ledger} {b : List ℤ} (k : Keeps g b) (l : List ℕ) where
         ended = ended-least k budget;
       }
 
-  good-search : kindOf l ≡ 6 → Good g b l (requested (searchRequest l) l b)
+  good-search : newKind (kindOf l) ≡ Known kind.Search → Good g b l (requested (searchRequest l) l b)
   unfolding requested
   good-search e =
       let f = searchAnswer b (searchBudget l) in
-      good-by g g b l (answered b (searchReply (trains b) f)) (fed-other g l (searchReply (trains b) f) (search-accepted (trains b) f) (omega arith)) k
-      (at-search g l (trains b) f (found-right (searchBudget l)) b e)
+      good-kind g b l kind.Search (answered b (searchReply (trains b) f)) e (search-kind (trains b) f) k (search-claim g l (trains b) f (found-right (searchBudget l)))
 
   -- ---- every request
 
   as-asked : (q r : Request) → q ≡ r → Good g b l (requested r l b) → Good g b l (requested q l b)
   as-asked q r e x = subst (λ (s : Request). Good g b l (requested s l b)) (sym e) x
 
-  good-request : (q : Request) → Makes l b q → kindOf l ≡ kindNumber (requestKind q) → Good g b l (requested q l b)
+  good-request : (q : Request) → Makes l b q → newKind (kindOf l) ≡ Known (requestKind q) → Good g b l (requested q l b)
   good-request (Load q) m e = as-asked (Load q) (loadRequest l) (m .0) (good-load g l b e (m .1))
   good-request (Add q) m e =
       let w = add-there (k .study) (add-fine l b (m .1)) in
       as-asked (Add q) (addRequest l) (m .0) (good-added (w .0) (w .1) e)
-  good-request (Shift q) m e = as-asked (Shift q) (shiftRequest (trains b) (moveCount b)) (m .0) (good-shift e)
+  good-request (Shift q) m e = as-asked (Shift q) (shiftRequest (trains b) (moveCount (shapeOf b))) (m .0) (good-shift e)
   good-request Tighten m e = good-tighten e
-  good-request (Certify q) m e = as-asked (Certify q) (certifyRequest l (weightCount b)) (m .0) (good-certify e (certify-fine l (weightCount b) (m .1) .fullWeight))
+  good-request (Certify q) m e = as-asked (Certify q) (certifyRequest l (weightCount (shapeOf b))) (m .0) (good-certify e (certify-fine l (weightCount (shapeOf b)) (m .1) .fullWeight))
   good-request (Search q) m e = as-asked (Search q) (searchRequest l) (m .0) (good-search e)
 
   -- a line on a block that the ledger keeps, where there is room for every fixed reply
@@ -279,7 +274,7 @@ module _ {g : Ledger} {b : List ℤ} (k : Keeps g b) (l : List ℕ) where
   good-line room h =
       line-cases l b room h (study-well-formed (k .study)) (Good g b l)
       (λ r e. good-declined k l r (line-allowed l b r e))
-      (λ q a. good-request q (line-makes l b q (a .asked) .1) (line-kind l b q (a .asked)))
+      (λ q a. good-request q (line-makes l b q (a .asked) .1) (line-known l b q (a .asked)))
 
   -- a call on it
   pub good-call : (buffer : List ℕ) → Good g b l (answer l b buffer)

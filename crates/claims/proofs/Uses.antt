@@ -3,43 +3,42 @@
 use mathlib.Core.Path.{_≡_, refl, subst}
 use mathlib.Core.Bool.{cond, _&&_}
 use mathlib.Core.List.{List, [], _∷_}
-use mathlib.Core.Logic.{inl, inr}
-use Prim.Native.Char.{code}
 use Prim.Native.Nat.{ℕ, zero, suc, _<_, _≤_}
-use Prim.Native.String.{String, [] as empty, _∷_ as char-then}
+use Prim.Native.String.{String}
 use native.Mathlib.Omega.{arith}
 use lib.Dec.{eqb}
 use lib.IntN.{ℤ}
 use lib.ListN.{length, take}
-use Rattle.tables.specs.Sum.{sum}
+use Rattle.theory.specs.Sum.{sum}
+use Rattle.theory.specs.Lists.{listFrom}
+use Rattle.theory.proofs.Range.{not-both}
 use Rattle.tables.specs.Block.{trains, scale, pairs, constant, size, first, second, loadedChoice, loadedEntry}
 use Rattle.tables.specs.WellFormed.{freshBlock}
-use Rattle.tables.specs.Plans.{IsPlan, choiceTotal, pairTotal, total, shapeOf, heldTotal}
-use Rattle.tables.proofs.Range.{not-both}
+use Rattle.tables.specs.Plans.{IsPlan, choiceTotal, pairTotal, total, heldTotal}
 use Rattle.certificates.specs.Rival.{asFraction, plus, times, sumOf, Same, AtMost, Rival, rivalTotal, IsRival, ConstantAtMost}
 use Rattle.frames.specs.Digits.{digit, byteAt}
 use Rattle.frames.specs.Fields.{field}
-use Rattle.frames.specs.Runs.{listFrom}
+use Rattle.frames.specs.Text.{codes}
+use Rattle.lines.specs.declared.kind.Kind.the-variants.{Load, Add, Shift, Tighten, Certify, Search}
+use Rattle.lines.specs.declared.kind.NewKind.the-variants.{Known, NoSuch}
+use Rattle.lines.specs.Kinds.{newKind}
 use Rattle.lines.specs.Layout.{pairAt}
-use Rattle.lines.specs.Numbers.{entriesOf, numbersOf}
+use Rattle.decoding.specs.Numbers.{entriesOf, numbersOf}
 use Rattle.replies.specs.Replies.{boundOf}
+use Rattle.replies.specs.Shown.{boundShown}
 use Rattle.requests.specs.Answer.{lineAnswer}
 use Rattle.service.specs.Answer.{minBuffer, answer}
 use Rattle.service.specs.Calls.{Exchange, exchange}
 use Rattle.service.proofs.Calls.{answered-line}
-use Rattle.claims.specs.Ledger.{Ledger, accepted, loadedLedger, emptyLedger, fed, ledgerOf, costOf, hasLoad}
-use Rattle.claims.specs.Claims.{PlanOf, DeclinedAs, scaledCost, AtLine, AtCall, EachCall, AfterList, Claimed}
+use Rattle.claims.specs.Ledger.{Ledger, accepted, numbersLedger, emptyLedger, fed, ledgerOf, costOf, hasLoad}
+use Rattle.claims.specs.Claims.{PlanOf, DeclinedAs, scaledCost, BoundClaim, AtLine, AtCall, EachCall, AfterList, Claimed}
 use Rattle.claims.specs.Seen.{Seen, Chained, seenBlocks, seenExchanges}
+use Rattle.claims.proofs.ByKind.{line-answered, line-claim, shown-claim}
 use Rattle.claims.proofs.Seen.{seen-demand}
-
--- the characters of a text
-unfoldable codes : String → List ℕ
-codes empty = []
-codes (char-then c s) = code c ∷ codes s
 
 -- a line and its reply, to be computed: whoever opens this name opens each definition on the way from characters to the ledger's costs
 unfoldable told : String → String → Exchange
-unfolding codes digit byteAt field listFrom pairAt entriesOf numbersOf sum choiceTotal pairTotal total accepted fed ledgerOf hasLoad
+unfolding codes digit byteAt field listFrom pairAt entriesOf numbersOf sum choiceTotal pairTotal total accepted newKind fed ledgerOf hasLoad
 told l r = exchange (codes l) (codes r)
 
 -- 'J is the first line above, loaded': by its ledger the plans 00, 01, 10 and 11 cost 3, 2, 3 and 2
@@ -48,7 +47,7 @@ load = "010200010202000002000000000000000000010001000001000000000003000002"
 
 unfoldable j : Ledger
 unfolding load codes
-j = loadedLedger (codes load)
+j = numbersLedger (numbersOf (codes load))
 
 -- the plan of two trains that takes a and c
 plan : ℕ → ℕ → ℕ → ℕ
@@ -60,24 +59,12 @@ plan-01 zero h = omega arith
 plan-01 (suc zero) h = omega arith
 plan-01 (suc (suc i)) h = let q : suc (suc i) < 2 = h in absurd (omega arith)
 
--- ---- wrong replies to lines on J
-
--- an 01 line answered under 84
-other-kind : AtLine j (told load "84000000000000000000000000") → ⊥
-unfolding told load
-other-kind a = let h : _≡_ {A = ℕ} 132 129 = a .kind in omega arith
-
--- a bound of 3, above the cost of plan 01
-high-bound : AtLine j (told load "81000000000000000000000003") → ⊥
+-- a bound of 3 is above the cost of plan 01
+too-high : {e : Exchange} → BoundClaim j e → boundShown (e .reply) ≡ 3 → ⊥
 unfolding told load j plan
-high-bound a = let h : 3 ≤ 2 = a .bound (omega arith) (plan 0 1) plan-01 in omega arith
+too-high c e = let h : _ ≤ 2 = c .bound (plan 0 1) plan-01 in omega (arith, e)
 
--- W of 0
-no-full-weight : AtLine j (told "05" "85010000000000000002000000") → ⊥
-unfolding told
-no-full-weight a = let h : 0 < 0 = a .fullWeight refl in omega arith
-
--- a ceiling of 1: J tightened is a rival with a constant of 2, of which choice 0 of train 1 costs 1 and all else nothing
+-- J tightened is a rival with a constant of 2, of which choice 0 of train 1 costs 1 and all else nothing
 rival : Rival
 rival = record { gain = asFraction 2; loss = asFraction 0; choice = λ i a. asFraction (cond (eqb i 1 && eqb a 0) 1 0); pair = λ k a c. asFraction 0 }
 
@@ -96,48 +83,84 @@ is-rival : IsRival (j .shape) (scaledCost j) rival
 unfolding told load j plan rival IsRival IsPlan Same rivalTotal sumOf plus asFraction
 is-rival x p = same-cost (x 0) (x 1) (p 0 (omega arith)) (p 1 (omega arith))
 
-low-ceiling : AtLine j (told "05" "85000000000000000001000001") → ⊥
-unfolding told load rival ConstantAtMost AtMost times plus asFraction
-low-ceiling a = let h : 2 ≤ 1 = a .ceiling refl rival is-rival in omega arith
+-- ---- wrong replies to lines on J, whatever block a call had
 
--- ended, with no plan
-ended-without-plan : AtLine j (told "06" "860100000004FFFFFFFFFFFFFFFF") → ⊥
-unfolding told
-ended-without-plan a = not-both (a .ended refl refl) refl
+module _ {b : List ℤ} where
+  -- a line of no kind
+  no-kind : AtLine j b (told "FF" "81000000000000000000000000") → ⊥
+  unfolding told
+  no-kind a = let z : NoSuch ≡ Known (a .kind) = a .known in let h : _≡_ {A = ℕ} 0 1 = cc in omega arith
 
--- choice 2 of train 1
-absent-choice : AtLine j (told "06" "8600000000030000000000020002") → ⊥
-unfolding told load j IsPlan
-absent-choice a = let h : 2 < 2 = a .shown refl refl .0 1 (omega arith) in omega arith
+  -- an 01 line answered under 84
+  other-kind : AtLine j b (told load "84000000000000000000000000") → ⊥
+  unfolding told load
+  other-kind a = let h : _≡_ {A = ℕ} 132 129 = line-answered a Load refl in omega arith
 
--- plan 01 at a cost of 3
-other-cost : AtLine j (told "06" "8600000000030000000000030001") → ⊥
-unfolding told load j
-other-cost a = let h : _≡_ {A = ℕ} 3 2 = a .shown refl refl .1 in omega arith
+  -- a bound of 3, to each kind that shows a bound
+  high-bound : AtLine j b (told load "81000000000000000000000003") → ⊥
+  unfolding told load
+  high-bound a = too-high (line-claim a Load refl) refl
 
--- ended with plan 00, which costs 3
-worse-plan : AtLine j (told "06" "8601000000040000000000030000") → ⊥
-unfolding told load j plan
-worse-plan a = let h : 3 ≤ 2 = a .least refl refl (plan 0 1) plan-01 in omega arith
+  high-added : AtLine j b (told "02" "82000000000000000000000003") → ⊥
+  unfolding told
+  high-added a = too-high (line-claim a Add refl) refl
+
+  high-shifted : AtLine j b (told "03" "83000000000000000000000003") → ⊥
+  unfolding told
+  high-shifted a = too-high (line-claim a Shift refl) refl
+
+  high-tightened : AtLine j b (told "04" "84000000000000000000000003") → ⊥
+  unfolding told
+  high-tightened a = too-high (line-claim a Tighten refl) refl
+
+  -- W of 0
+  no-full-weight : AtLine j b (told "05" "85010000000000000002000000") → ⊥
+  unfolding told
+  no-full-weight a = let h : 0 < 0 = line-claim a Certify refl .fullWeight in omega arith
+
+  -- a ceiling of 1
+  low-ceiling : AtLine j b (told "05" "85000000000000000001000001") → ⊥
+  unfolding told load rival ConstantAtMost AtMost times plus asFraction
+  low-ceiling a = let h : 2 ≤ 1 = line-claim a Certify refl .ceiling rival is-rival in omega arith
+
+  -- ended, with no plan
+  ended-without-plan : AtLine j b (told "06" "860100000004FFFFFFFFFFFFFFFF") → ⊥
+  unfolding told
+  ended-without-plan a = not-both (line-claim a Search refl .ended refl) refl
+
+  -- choice 2 of train 1
+  absent-choice : AtLine j b (told "06" "8600000000030000000000020002") → ⊥
+  unfolding told load j IsPlan
+  absent-choice a = let h : 2 < 2 = line-claim a Search refl .shown refl .0 1 (omega arith) in omega arith
+
+  -- plan 01 at a cost of 3
+  other-cost : AtLine j b (told "06" "8600000000030000000000030001") → ⊥
+  unfolding told load j
+  other-cost a = let h : _≡_ {A = ℕ} 3 2 = line-claim a Search refl .shown refl .1 in omega arith
+
+  -- ended with plan 00, which costs 3
+  worse-plan : AtLine j b (told "06" "8601000000040000000000030000") → ⊥
+  unfolding told load j plan
+  worse-plan a = let h : 3 ≤ 2 = line-claim a Search refl .least refl (plan 0 1) plan-01 in omega arith
 
 module _ (g : Ledger) (b : List ℤ) where
   -- E = W × c0, but 00; and 01, but E above it
   not-reached : constant b ≡ 2 → AtCall g b (told "05" "85000000000000000002000001") → ⊥
   unfolding told
-  not-reached e a = let h : _≡_ {A = ℕ} 0 1 = rw e at (a .reached refl refl) in omega arith
+  not-reached e a = let h : _≡_ {A = ℕ} 0 1 = rw e at (line-claim (a .line refl) Certify refl .reached) in omega arith
 
   reached-above : constant b ≡ 1 → AtCall g b (told "05" "85010000000000000002000001") → ⊥
   unfolding told
-  reached-above e a = let h : _≡_ {A = ℕ} 1 0 = rw e at (a .reached refl refl) in omega arith
+  reached-above e a = let h : _≡_ {A = ℕ} 1 0 = rw e at (line-claim (a .line refl) Certify refl .reached) in omega arith
 
   -- 12 to an addition and to a tightening, 16 to any line
   add-outside : AtCall g b (told "020000000001" "FF0C") → ⊥
   unfolding told DeclinedAs
-  add-outside a = a .never-outside (inl refl) (refl, refl)
+  add-outside a = a .never-outside refl (refl, refl)
 
   tighten-outside : AtCall g b (told "04" "FF0C") → ⊥
   unfolding told DeclinedAs
-  tighten-outside a = a .never-outside (inr refl) (refl, refl)
+  tighten-outside a = a .never-outside refl (refl, refl)
 
   no-malformed : (l : List ℕ) → AtCall g b (exchange l (told "" "FF10" .reply)) → ⊥
   unfolding told DeclinedAs
@@ -163,15 +186,15 @@ module _ {b₀ b₁ b₂ b₃ b : List ℤ} (d : Claimed (b₀ ∷ b₁ ∷ b₂
   -- what the tightening, the certificate and the search show
   tightened-bound : (x : ℕ → ℕ) → PlanOf j x → 2 ≤ costOf j x
   unfolding told load j session EachCall
-  tightened-bound = d .each .1 .0 .line refl .bound (omega arith)
+  tightened-bound = shown-claim (d .each .1 .0 .line refl) Tighten refl .bound
 
   certified-ceiling : (r : Rival) → IsRival (j .shape) (scaledCost j) r → ConstantAtMost 1 2 r
   unfolding told load j session EachCall
-  certified-ceiling = d .each .1 .1 .0 .line refl .ceiling refl
+  certified-ceiling = shown-claim (d .each .1 .1 .0 .line refl) Certify refl .ceiling
 
   last-call : (x : ℕ → ℕ) → PlanOf j x → 2 ≤ costOf j x
   unfolding told load j session EachCall
-  last-call = d .each .1 .1 .1 .0 .line refl .least refl refl
+  last-call = shown-claim (d .each .1 .1 .1 .0 .line refl) Search refl .least refl
 
   -- the block that is left
   after : AfterList j b
@@ -179,7 +202,7 @@ module _ {b₀ b₁ b₂ b₃ b : List ℤ} (d : Claimed (b₀ ∷ b₁ ∷ b₂
   after = d .after refl
 
   j-shape : (trains b ≡ 2) × (scale b ≡ 1) × (size b 0 ≡ 2) × (pairs b ≡ 1) × (first b 0 ≡ 0) × (second b 0 ≡ 1)
-  unfolding told load j shapeOf
+  unfolding told load j
   j-shape =
       let s = after .same .shape-same in
       let n : trains b ≡ 2 = s .trains-same in
@@ -187,7 +210,7 @@ module _ {b₀ b₁ b₂ b₃ b : List ℤ} (d : Claimed (b₀ ∷ b₁ ∷ b₂
       (n, after .same .scale-same, s .sizes-same 0 (omega arith), m, s .firsts-same 0 (omega arith), s .seconds-same 0 (omega arith))
 
   j-costs : (loadedChoice b 0 0 ≡ 2) × (loadedEntry b 0 0 0 ≡ 1)
-  unfolding told load j shapeOf
+  unfolding told load j
   j-costs =
       let s = after .same in
       let e = j-shape in
@@ -214,4 +237,4 @@ next-line {b = b} d l buffer h = answered-line l b buffer h (d .right)
 seen-bound : (s t : Seen) → Chained freshBlock (s ∷ t ∷ []) → seenExchanges (s ∷ t ∷ []) ≡ take 2 session → (x : ℕ → ℕ) → PlanOf j x → 2 ≤ costOf j x
 unfolding told load j session EachCall seenBlocks
 seen-bound s t c e = let d : EachCall emptyLedger (s .block ∷ t .block ∷ []) (take 2 session) = subst (EachCall emptyLedger (s .block ∷ t .block ∷ [])) e (seen-demand (s ∷ t ∷ []) c .each) in
-    d .1 .0 .line refl .bound (omega arith)
+    shown-claim (d .1 .0 .line refl) Tighten refl .bound

@@ -1,21 +1,24 @@
 -- Demand 3 of document 01, as one claim about a whole list of calls from a fresh block. Nothing else stands in this file; `demand` in proofs/Demand.antt proves it. What follows from each
 -- part of it, so that it cannot be said more weakly unseen, stands in proofs/Uses.antt; the name of the law there is in brackets.
 use mathlib.Core.Path.{_≡_}
-use mathlib.Core.Bool.{Bool, true, not}
+use mathlib.Core.Bool.{Bool, true, false, not}
 use mathlib.Core.List.{List, [], _∷_}
-use mathlib.Core.Logic.{_⊎_}
-use Prim.Native.Nat.{ℕ, _+_, _*_, _-_, _<_, _≤_, _^_}
+use Prim.Native.Nat.{ℕ, _+_, _*_, _-_, _<_, _≤_}
 use lib.Dec.{eqb}
 use lib.IntN.{ℤ}
 use Rattle.tables.specs.Block.{trains, scale, pairs, constant, size, first, second, loadedChoice, loadedEntry}
 use Rattle.tables.specs.WellFormed.{wellFormed, freshBlock}
 use Rattle.tables.specs.Plans.{AlikeShapes, IsPlan, shapeOf, heldTotal}
 use Rattle.certificates.specs.Rival.{Rival, IsRival, ConstantAtMost}
-use Rattle.frames.specs.Fields.{field}
+use Rattle.lines.specs.declared.kind.Kind.{Kind}
+use Rattle.lines.specs.declared.kind.Kind.the-variants.{Load, Add, Shift, Tighten, Certify, Search}
+use Rattle.lines.specs.declared.kind.NewKind.the-variants.{Known}
+use Rattle.lines.specs.Kinds.{newKind}
 use Rattle.lines.specs.Layout.{kindOf}
-use Rattle.replies.specs.Replies.{boundOf, refusalByte, replyKind, figureWidth, flag}
+use Rattle.replies.specs.Replies.{boundOf, refusalByte, replyKind, flag}
+use Rattle.replies.specs.Shown.{kindShown, numberShown, boundShown, flagShown, weightedShown, fullWeightShown, saysEnded, costShown, planShown, showsPlan}
 use Rattle.service.specs.Calls.{Call, Exchange, lastBlock, blocks, exchanges}
-use Rattle.claims.specs.Ledger.{Ledger, accepted, fed, ledgerOf, emptyLedger, costOf, hasLoad}
+use Rattle.claims.specs.Ledger.{Ledger, accepted, byKind, fed, ledgerOf, emptyLedger, costOf, hasLoad}
 
 -- a plan of a ledger
 abbrev pub PlanOf : Ledger → (ℕ → ℕ) → Type 0
@@ -25,14 +28,7 @@ PlanOf g x = IsPlan (g .shape) x
 abbrev pub scaledCost : Ledger → (ℕ → ℕ) → ℕ
 scaledCost g x = g .scale * costOf g x
 
--- ---- figures, read back from the reply's characters
-
-abbrev pub kindShown : List ℕ → ℕ
-kindShown reply = field reply 0 1
-
--- 'FF and the number as one byte'
-abbrev pub numberShown : List ℕ → ℕ
-numberShown reply = field reply 1 1
+-- ---- replies, by the figures that they show (`Shown` in `replies`)
 
 -- a reply that declines under the number n
 unfoldable pub DeclinedAs : ℕ → List ℕ → Type 0
@@ -46,72 +42,69 @@ outside = 12
 abbrev pub malformed : ℕ
 malformed = 16
 
--- '81 to 84, c0 in parts (6), bound in points (6)'
-abbrev pub boundShown : List ℕ → ℕ
-boundShown reply = field reply 7 figureWidth
-
--- '85, 01 if reached else 00, E (8), W (3)' and '86, 01 ended or 00 spent'
-abbrev pub flagShown : List ℕ → ℕ
-flagShown reply = field reply 1 1
-
-abbrev pub weightedShown : List ℕ → ℕ
-weightedShown reply = field reply 2 8
-
-abbrev pub fullWeightShown : List ℕ → ℕ
-fullWeightShown reply = field reply 10 3
-
 -- 'Reached means E = W × c0', c0 being the constant of the block b
 abbrev pub reaches : List ℤ → List ℕ → Bool
 reaches b reply = eqb (weightedShown reply) (fullWeightShown reply * constant b)
 
--- '86, 01 ended or 00 spent, count (4), cost (6), one byte a train'
-abbrev pub saysEnded : List ℕ → Bool
-saysEnded reply = eqb (flagShown reply) 1
-
-abbrev pub costShown : List ℕ → ℕ
-costShown reply = field reply 6 figureWidth
-
-abbrev pub planShown : List ℕ → ℕ → ℕ
-planShown reply i = field reply (12 + i) 1
-
--- 'With no plan yet .., cost and plan are all FF'
-abbrev pub showsPlan : List ℕ → Bool
-showsPlan reply = not (eqb (costShown reply) (256 ^ figureWidth - 1))
-
 -- ---- what is claimed of an accepted line and its reply, by the ledger g 'as it stands after that line'
 
-pub record AtLine (g : Ledger) (e : Exchange) : Type 0 where
-  -- 'Kinds 01 to 04: 81 to 84', 'Certify: 85', 'Search: 86': an accepted line is answered under its own kind (`other-kind`)
-  pub kind : kindShown (e .reply) ≡ replyKind (kindOf (e .line))
+-- 'Kinds 01 to 04: .. c0 in parts (6), bound in points (6)'
+pub record BoundClaim (g : Ledger) (e : Exchange) : Type 0 where
   -- 'Each bound that a reply shows beside c0 was, at its own line, at most every plan's cost' (`tightened-bound`, `high-bound`)
-  pub bound : kindShown (e .reply) ≤ replyKind 4 → (x : ℕ → ℕ) → PlanOf g x → boundShown (e .reply) ≤ costOf g x
+  pub bound : (x : ℕ → ℕ) → PlanOf g x → boundShown (e .reply) ≤ costOf g x
+
+-- 'Certify: .. 01 if reached else 00, E (8), W (3)', the call having had the block b
+pub record CeilingClaim (g : Ledger) (b : List ℤ) (e : Exchange) : Type 0 where
   -- 'The ceiling is E/W parts': W is above 0 (`no-full-weight`)
-  pub fullWeight : kindShown (e .reply) ≡ replyKind 5 → 0 < fullWeightShown (e .reply)
+  pub fullWeight : 0 < fullWeightShown (e .reply)
   -- 'W × the constant of every rival is at most E' (`certified-ceiling`, `low-ceiling`)
-  pub ceiling : kindShown (e .reply) ≡ replyKind 5 → (r : Rival) → IsRival (g .shape) (scaledCost g) r
-      → ConstantAtMost (fullWeightShown (e .reply)) (weightedShown (e .reply)) r
+  pub ceiling : (r : Rival) → IsRival (g .shape) (scaledCost g) r → ConstantAtMost (fullWeightShown (e .reply)) (weightedShown (e .reply)) r
+  -- '01 if reached else 00' (`not-reached`, `reached-above`)
+  pub reached : flagShown (e .reply) ≡ flag (reaches b (e .reply))
+
+-- 'Search: .. 01 ended or 00 spent, count (4), cost (6), one byte a train'
+pub record SearchClaim (g : Ledger) (e : Exchange) : Type 0 where
   -- 'every search reply that shows a plan, as each that says ended (01) does' (`ended-without-plan`)
-  pub ended : kindShown (e .reply) ≡ replyKind 6 → saysEnded (e .reply) ≡ true → showsPlan (e .reply) ≡ true
+  pub ended : saysEnded (e .reply) ≡ true → showsPlan (e .reply) ≡ true
   -- 'the cost shown is, at that line, that plan's cost' (`absent-choice`, `other-cost`)
-  pub shown : kindShown (e .reply) ≡ replyKind 6 → showsPlan (e .reply) ≡ true
-      → PlanOf g (planShown (e .reply)) × (costShown (e .reply) ≡ costOf g (planShown (e .reply)))
+  pub shown : showsPlan (e .reply) ≡ true → PlanOf g (planShown (e .reply)) × (costShown (e .reply) ≡ costOf g (planShown (e .reply)))
   -- 'If it says ended, every other plan costs, at that line, at least as much' (`worse-plan`)
-  pub least : kindShown (e .reply) ≡ replyKind 6 → saysEnded (e .reply) ≡ true
-      → (x : ℕ → ℕ) → PlanOf g x → costShown (e .reply) ≤ costOf g x
+  pub least : saysEnded (e .reply) ≡ true → (x : ℕ → ℕ) → PlanOf g x → costShown (e .reply) ≤ costOf g x
+
+-- each kind's own (`high-bound`, `high-added`, `high-shifted`, `high-tightened`)
+abbrev pub Claim : Kind → Ledger → List ℤ → Exchange → Type 0
+Claim Load g b e = BoundClaim g e
+Claim Add g b e = BoundClaim g e
+Claim Shift g b e = BoundClaim g e
+Claim Tighten g b e = BoundClaim g e
+Claim Certify g b e = CeilingClaim g b e
+Claim Search g b e = SearchClaim g e
+
+pub record AtLine (g : Ledger) (b : List ℤ) (e : Exchange) : Type 0 where
+  -- 'The first byte is the kind': an accepted line has one (`no-kind`)
+  pub kind : Kind
+  pub known : newKind (kindOf (e .line)) ≡ Known kind
+  -- 'Kinds 01 to 04: 81 to 84', 'Certify: 85', 'Search: 86': it is answered under its own kind (`other-kind`)
+  pub answered : kindShown (e .reply) ≡ replyKind kind
+  -- and what its kind claims holds
+  pub claim : Claim kind g b e
 
 -- ---- what is claimed of one call, which had the block b
 
--- 'add and tighten'
-abbrev pub AddOrTighten : List ℕ → Type 0
-AddOrTighten l = (kindOf l ≡ 2) ⊎ (kindOf l ≡ 4)
+-- 'add and tighten never give 12'
+abbrev pub neverOutside : Kind → Bool
+neverOutside Load = false
+neverOutside Add = true
+neverOutside Shift = false
+neverOutside Tighten = true
+neverOutside Certify = false
+neverOutside Search = false
 
 pub record AtCall (g : Ledger) (b : List ℤ) (e : Exchange) : Type 0 where
   -- 'A line is accepted if its reply isn't empty and doesn't begin with FF'
-  pub line : accepted (e .reply) ≡ true → AtLine g e
-  -- '01 if reached else 00' (`not-reached`, `reached-above`)
-  pub reached : accepted (e .reply) ≡ true → kindShown (e .reply) ≡ replyKind 5 → flagShown (e .reply) ≡ flag (reaches b (e .reply))
+  pub line : accepted (e .reply) ≡ true → AtLine g b e
   -- 'From fresh by these lines only, add and tighten never give 12' (`add-outside`, `tighten-outside`)
-  pub never-outside : AddOrTighten (e .line) → DeclinedAs outside (e .reply) → ⊥
+  pub never-outside : byKind neverOutside false (e .line) ≡ true → DeclinedAs outside (e .reply) → ⊥
   -- no line of a list gives 16: each has 'the block that the call before left', 'the first has a fresh block' (`no-malformed`)
   pub never-malformed : DeclinedAs malformed (e .reply) → ⊥
 

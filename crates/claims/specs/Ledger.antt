@@ -1,20 +1,25 @@
 -- Document 01, 'Lists and the ledger': what the ledger knows of a list of lines, each with its reply.
 use mathlib.Core.Bool.{Bool, true, false, cond, _&&_, not}
 use mathlib.Core.List.{List, [], _∷_}
-use Prim.Native.Nat.{ℕ, _+_, _*_}
+use Prim.Native.Nat.{ℕ, _+_}
 use lib.Dec.{ltb, eqb}
 use lib.ListN.{length}
-use Rattle.tables.specs.Numbers.{Numbers, numbers, nth, choiceStart, lanesOf, entryStart}
+use Rattle.tables.specs.Numbers.{Numbers, numbers, numbersShape, numbersCosts}
 use Rattle.tables.specs.Plans.{Shape, Costs, total}
-use Rattle.frames.specs.Fields.{field}
+use Rattle.lines.specs.declared.kind.Kind.{Kind}
+use Rattle.lines.specs.declared.kind.Kind.the-variants.{Load, Add, Shift, Tighten, Certify, Search}
+use Rattle.lines.specs.declared.kind.NewKind.{NewKind}
+use Rattle.lines.specs.declared.kind.NewKind.the-variants.{Known, NoSuch}
+use Rattle.lines.specs.Kinds.{newKind}
 use Rattle.lines.specs.Layout.{kindOf, addTrain, addChoice, addPoints}
-use Rattle.lines.specs.Numbers.{numbersOf}
+use Rattle.decoding.specs.Numbers.{numbersOf}
 use Rattle.replies.specs.Replies.{refusalByte}
+use Rattle.replies.specs.Shown.{kindShown}
 use Rattle.service.specs.Calls.{Exchange}
 
 -- 'A line is accepted if its reply isn't empty and doesn't begin with FF'
 unfoldable pub accepted : List ℕ → Bool
-accepted reply = ltb 0 (length reply) && not (eqb (field reply 0 1) refusalByte)
+accepted reply = ltb 0 (length reply) && not (eqb (kindShown reply) refusalByte)
 
 -- what the ledger knows: n, sizes and pairs; s; costs in points, with no constant
 pub record Ledger : Type 0 where
@@ -22,24 +27,15 @@ pub record Ledger : Type 0 where
   pub shape : Shape
   pub costs : Costs
 
--- the shape and the costs that the numbers of a load give
-abbrev pub numbersShape : Numbers → Shape
-numbersShape l =
-    record { trains = length (l .sizes); size = nth (l .sizes); pairs = length (l .firsts); first = nth (l .firsts); second = nth (l .seconds) }
+-- the ledger of a study's numbers
+abbrev pub numbersLedger : Numbers → Ledger
+numbersLedger n = record { scale = n .scale; shape = numbersShape n; costs = numbersCosts n }
 
-abbrev pub numbersCosts : Numbers → Costs
-numbersCosts l =
-    record {
-      constant = 0;
-      choice = λ i a. nth (l .choices) (choiceStart (l .sizes) i + a);
-      pair = λ k a c. nth (l .entries) (entryStart (l .sizes) (l .firsts) (l .seconds) k + lanesOf (l .sizes) (l .seconds) k * a + c);
-    }
+-- 'It starts empty'
+abbrev pub emptyLedger : Ledger
+emptyLedger = numbersLedger (numbers 0 [] [] [] [] [])
 
--- 'Accepted load: n, s, sizes, pairs and costs in points become those of the line'
-abbrev pub loadedLedger : List ℕ → Ledger
-loadedLedger l = record { scale = numbersOf l .scale; shape = numbersShape (numbersOf l); costs = numbersCosts (numbersOf l) }
-
--- 'Accepted add: the cost of the named choice grows by the line's points'
+-- the points of an add line, at the choice that it names
 abbrev pub addedLedger : List ℕ → Ledger → Ledger
 addedLedger l g =
     record {
@@ -53,13 +49,41 @@ addedLedger l g =
           };
     }
 
--- 'It starts empty'
-abbrev pub emptyLedger : Ledger
-emptyLedger = record { scale = 0; shape = numbersShape (numbers 0 [] [] [] [] []); costs = numbersCosts (numbers 0 [] [] [] [] []) }
+-- ---- what goes by the kind of a line
 
--- 'The ledger is fed the lines in order, each with its reply, and nothing of the block': 'Every other accepted line, and every refused line: nothing changes'
+-- this of a kind, the other where there is none
+abbrev pub ifKnown : {A : Type 0} → (Kind → A) → A → NewKind → A
+ifKnown f other (Known k) = f k
+ifKnown f other NoSuch = other
+
+-- 'The first byte is the kind': this of the line's kind, the other where it has none
+abbrev pub byKind : {A : Type 0} → (Kind → A) → A → List ℕ → A
+byKind f other l = ifKnown f other (newKind (kindOf l))
+
+-- what the ledger becomes by an accepted line of each kind. 'Accepted load: n, s, sizes, pairs and costs in points become those of the line'; 'Accepted add: the cost of the named choice grows by
+-- the line's points'; 'Every other accepted line ..: nothing changes'
+abbrev pub changed : Kind → List ℕ → Ledger → Ledger
+changed Load l g = numbersLedger (numbersOf l)
+changed Add l g = addedLedger l g
+changed Shift l g = g
+changed Tighten l g = g
+changed Certify l g = g
+changed Search l g = g
+
+-- 'a list with an accepted load': the kinds that load
+abbrev pub loads : Kind → Bool
+loads Load = true
+loads Add = false
+loads Shift = false
+loads Tighten = false
+loads Certify = false
+loads Search = false
+
+-- ---- lists of lines with their replies
+
+-- 'The ledger is fed the lines in order, each with its reply, and nothing of the block': of a refused line 'nothing changes'
 unfoldable pub fed : Exchange → Ledger → Ledger
-fed e g = cond (accepted (e .reply)) (cond (eqb (kindOf (e .line)) 1) (loadedLedger (e .line)) (cond (eqb (kindOf (e .line)) 2) (addedLedger (e .line) g) g)) g
+fed e g = cond (accepted (e .reply)) (byKind (λ k. changed k (e .line) g) g (e .line)) g
 
 unfoldable pub ledgerOf : Ledger → List Exchange → Ledger
 ledgerOf g [] = g
@@ -72,4 +96,4 @@ costOf g x = total (g .shape) (g .costs) x
 -- the list has an accepted load
 unfoldable pub hasLoad : List Exchange → Bool
 hasLoad [] = false
-hasLoad (e ∷ es) = cond (accepted (e .reply) && eqb (kindOf (e .line)) 1) true (hasLoad es)
+hasLoad (e ∷ es) = cond (accepted (e .reply) && byKind loads false (e .line)) true (hasLoad es)

@@ -8,8 +8,8 @@ use native.Mathlib.Omega.{arith}
 use lib.Dec.{leb, ltb, eqb}
 use lib.ListN.{length, getD}
 use borrow.Author.Tests.{lt-ltb, ltb-true, ltb-false, leb-true, le-leb, lt-leb, ne-eqb, eqb-true, eqb-false, not-true}
-use Rattle.tables.specs.Range.{all}
-use Rattle.tables.proofs.Range.{both-true, bool-ext, all-true, pass-all}
+use Rattle.theory.specs.Range.{all}
+use Rattle.theory.proofs.Range.{both-true, bool-ext, all-true, pass-all}
 use Rattle.frames.specs.Digits.{noDigit, digit, byteAt, bytes}
 use Rattle.frames.specs.Frames.{maxCharacters, isDigit, allDigits, framed, newFrame, Framed}
 use Rattle.frames.specs.declared.frame.Frame.{Frame}

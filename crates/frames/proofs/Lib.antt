@@ -2,4 +2,5 @@
 pub mod Bytes
 pub mod Widths
 pub mod RoundTrip
-pub mod Lists
+pub mod RunDigits
+pub mod Stands

@@ -1,17 +1,17 @@
--- What a reply writes, a reader reads back: the field at the place of written digits is the number.
-use mathlib.Core.Path.{_≡_, refl, sym, ap, ap₂, _∙_}
+-- What is written, a reader reads back: the field at the place of written digits is the number.
+use mathlib.Core.Path.{_≡_, refl, sym, ap₂, _∙_}
 use mathlib.Core.Bool.{true}
 use mathlib.Core.List.{List, [], _∷_, _++_}
 use mathlib.Core.Logic.{dite}
-use Prim.Native.Nat.{ℕ, zero, suc, _+_, _*_, _/_, _%_, _<_, _≤_, _^_}
+use Prim.Native.Nat.{ℕ, zero, suc, _+_, _*_, _/_, _%_, _<_, _^_}
 use native.Mathlib.Nat.{add-assoc, add-zero}
 use native.Mathlib.Decide.{decLt}
 use native.Mathlib.Numerals.{add-one}
 use native.Mathlib.Omega.{arith}
-use lib.ListN.{length, getD, List·getD-append}
-use lib.Seq.{getD-append-add}
+use lib.ListN.{length, getD, drop}
+use lib.Seq.{getD-drop, drop-at}
 use borrow.Author.Tests.{le-leb, lt-leb, ne-eqb}
-use Rattle.tables.proofs.Range.{all-true, all-intro}
+use Rattle.theory.proofs.Range.{all-true, all-intro}
 use Rattle.frames.specs.Digits.{noDigit, digit, digitOf, byteAt, byteDigits}
 use Rattle.frames.specs.Fields.{field, fieldDigits}
 use Rattle.frames.specs.Frames.{isDigit, allDigits}
@@ -30,28 +30,19 @@ digit-back v h =
 digit-is : (v : ℕ) → v < noDigit → isDigit (digitOf v) ≡ true
 digit-is v h = rw (digit-back v h, ne-eqb v noDigit (λ e. omega arith))
 
--- ---- fields in a list of characters with others before or after them
+-- ---- reading from a byte on
 
-module _ (p l : List ℕ) (k : ℕ) (h : length p ≡ 2 * k) where
-  byte-after : (i : ℕ) → byteAt (p ++ l) (k + i) ≡ byteAt l i
-  unfolding byteAt
-  byte-after i =
-      let e : 2 * (k + i) ≡ length p + 2 * i = omega arith in
-      let f : 2 * (k + i) + 1 ≡ length p + (2 * i + 1) = omega arith in
-      rw (f, e, getD-append-add p l (2 * i) 0, getD-append-add p l (2 * i + 1) 0)
+byte-drop : (l : List ℕ) (at i : ℕ) → byteAt l (at + i) ≡ byteAt (drop (2 * at) l) i
+unfolding byteAt
+byte-drop l at i =
+    let e : 2 * (at + i) ≡ 2 * at + 2 * i = omega arith in
+    let f : 2 * at + 2 * i + 1 ≡ 2 * at + (2 * i + 1) = omega arith in
+    rw (e, f, getD-drop (2 * at) l (2 * i) 0, getD-drop (2 * at) l (2 * i + 1) 0)
 
-  -- after k other bytes
-  pub field-after : (at w : ℕ) → field (p ++ l) (k + at) w ≡ field l at w
-  unfolding field
-  field-after at zero = refl
-  field-after at (suc w) = ap₂ (λ (x y : ℕ). 256 * x + y) (field-after at w) (rw add-assoc (byte-after (at + w)))
-
--- before other characters
-pub field-before : (p l : List ℕ) (at w : ℕ) → 2 * (at + w) ≤ length p → field (p ++ l) at w ≡ field p at w
-unfolding field byteAt
-field-before p l at zero h = refl
-field-before p l at (suc w) h =
-    rw (List·getD-append p l 0 (2 * (at + w)) (omega arith), List·getD-append p l 0 (2 * (at + w) + 1) (omega arith), field-before p l at w (omega arith))
+pub field-drop : (l : List ℕ) (at k w : ℕ) → field l (at + k) w ≡ field (drop (2 * at) l) k w
+unfolding field
+field-drop l at k zero = refl
+field-drop l at k (suc w) = ap₂ (λ (x y : ℕ). 256 * x + y) (field-drop l at k w) (rw add-assoc (byte-drop l at (k + w)))
 
 -- ---- what is written
 
@@ -85,6 +76,7 @@ byte-back : (x : ℕ) (rest : List ℕ) → x < 256 → byteAt (byteDigits x res
 unfolding byteAt
 byte-back x rest h = rw (digit-back (x / 16) (omega arith), digit-back (x % 16) (omega arith)) (omega arith)
 
+-- the field at the place of written digits is the number
 pub field-here : (w v : ℕ) (rest : List ℕ) → v < 256 ^ w → field (fieldDigits w v rest) 0 w ≡ v
 unfolding fieldDigits field
 field-here zero v rest h = omega arith
@@ -92,11 +84,7 @@ field-here (suc w) v rest h =
     let r = byteDigits (v % 256) rest in
     let p = fieldDigits w (v / 256) [] in
     let z : 0 + w ≡ w + 0 = omega arith in
+    let behind : drop (2 * w) (p ++ r) ≡ r = drop-at p r (2 * w) (digits-length w (v / 256) [] ∙ add-zero (2 * w)) in
     let last : byteAt (fieldDigits w (v / 256) r) (0 + w) ≡ v % 256 =
-    rw (z, digits-append w (v / 256) [] r) (byte-after p r w (digits-length w (v / 256) [] ∙ add-zero (2 * w)) 0 ∙ byte-back (v % 256) rest (omega arith)) in
+    rw (z, digits-append w (v / 256) [] r, byte-drop (p ++ r) w 0, behind) (byte-back (v % 256) rest (omega arith)) in
     omega (arith, field-here w (v / 256) r (omega (arith, power-more w, add-one w)), last)
-
--- the field at byte k of what was written there
-pub read-back : (p : List ℕ) (k w v : ℕ) (rest : List ℕ) → length p ≡ 2 * k → v < 256 ^ w → field (p ++ fieldDigits w v rest) k w ≡ v
-read-back p k w v rest h q =
-    ap (λ (at : ℕ). field (p ++ fieldDigits w v rest) at w) (sym (add-zero k)) ∙ field-after p (fieldDigits w v rest) k h 0 w ∙ field-here w v rest q

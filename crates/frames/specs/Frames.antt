@@ -5,7 +5,7 @@ use mathlib.Core.List.{List}
 use Prim.Native.Nat.{ℕ, _%_, _≤_}
 use lib.Dec.{ltb, eqb}
 use lib.ListN.{length}
-use Rattle.tables.specs.Range.{pass}
+use Rattle.theory.specs.Range.{pass}
 use Rattle.frames.specs.Digits.{noDigit, digit, bytes}
 use Rattle.frames.specs.declared.frame.NewFrame.{NewFrame}
 use Rattle.frames.specs.declared.frame.NewFrame.the-variants.{Within, Long, Broken}

@@ -1,5 +1,6 @@
--- The rule, and runs of fields as lists. Nothing stands here besides.
+-- The rule, runs of fields as lists, and lines as examples write them. Nothing stands here besides.
 pub mod Digits
 pub mod Fields
 pub mod Frames
 pub mod Runs
+pub mod Text

@@ -1,7 +1,7 @@
--- A kind and its number determine each other.
+-- A kind and its number determine each other, and the number is low.
 use mathlib.Core.Path.{_≡_, refl, _∙_, ap}
 use mathlib.Core.Bool.{Bool, true, false, cond}
-use Prim.Native.Nat.{ℕ}
+use Prim.Native.Nat.{ℕ, _<_}
 use native.Mathlib.Omega.{arith}
 use lib.Dec.{eqb}
 use borrow.Author.Tests.{eqb-true}
@@ -35,3 +35,12 @@ module _ (n : ℕ) (k : Kind) where
   unfolding newKind
   kind-number =
       kind-if Load _ (kind-if Add _ (kind-if Shift _ (kind-if Tighten _ (kind-if Certify _ (kind-if Search NoSuch (λ e. let z : _≡_ {A = ℕ} 0 1 = cc in absurd (omega arith)))))))
+
+-- so low that the reply to a line of this kind, whose first byte is 128 higher, is no refusal
+pub number-low : (k : Kind) → kindNumber k < 127
+number-low Load = omega arith
+number-low Add = omega arith
+number-low Shift = omega arith
+number-low Tighten = omega arith
+number-low Certify = omega arith
+number-low Search = omega arith

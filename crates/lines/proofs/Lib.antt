@@ -1,7 +1,3 @@
 -- The laws of the crate, which callers cite: one file for each idea.
 pub mod KindNumbers
 pub mod Judged
-pub mod LoadFields
-pub mod LoadAccepted
-pub mod Entries
-pub mod LoadRange

@@ -2,16 +2,17 @@
 use mathlib.Core.List.{List}
 use Prim.Native.Nat.{ℕ, zero, suc, _+_, _*_, _-_}
 use lib.IntN.{ℤ}
+use Rattle.theory.specs.Sum.{sum}
 use Rattle.units.specs.Units.{scaleMin, scaleMax}
+use Rattle.refusals.specs.declared.Refusal.{Refusal}
+use Rattle.refusals.specs.declared.Refusal.the-variants.{Fields, Range, Cost, Absent, Move, FullWeight, Budget}
 use Rattle.tables.specs.Block.{maxTrains, maxChoices, maxPairs, maxCost}
-use Rattle.tables.specs.Ranges.{maxMove, maxFullWeight, maxBudget}
-use Rattle.tables.specs.Sum.{sum}
+use Rattle.tables.specs.LineLimits.{maxMove, maxFullWeight, maxBudget}
 use Rattle.frames.specs.Fields.{field, signedField}
-use Rattle.lines.specs.declared.refusal.Refusal.{Refusal}
-use Rattle.lines.specs.declared.refusal.Refusal.the-variants.{Fields, Range, Cost, Absent, Move, FullWeight, Budget}
-use Rattle.lines.specs.declared.request.Rule.{Rule}
-use Rattle.lines.specs.declared.request.Rule.the-variants.{Any, Between, Around}
-use Rattle.lines.specs.declared.request.Field.{Field}
+use Rattle.frames.specs.Runs.{runOf}
+use Rattle.lines.specs.declared.field.Rule.{Rule}
+use Rattle.lines.specs.declared.field.Rule.the-variants.{Any, Between, Around}
+use Rattle.lines.specs.declared.field.Field.{Field}
 
 -- 'The first byte is the kind'
 abbrev pub kindWidth : ℕ
@@ -30,11 +31,33 @@ fieldAs at width rule refusal = record { at = at; width = width; rule = rule; re
 abbrev pub numberIn : List ℕ → Field → ℕ
 numberIn l f = field l (f .at) (f .width)
 
+-- the same, 'two's complement'
+abbrev pub signedIn : List ℕ → Field → ℤ
+signedIn l f = signedField l (f .at) (f .width)
+
+-- the byte behind a field, where the next one begins
+abbrev pub endOf : Field → ℕ
+endOf f = f .at + f .width
+
 -- field k of a run that begins with this one
 abbrev pub further : Field → ℕ → Field
 further f k = fieldAs (f .at + f .width * k) (f .width) (f .rule) (f .refusal)
 
--- how many bytes a cost, a lift or a move, W or a weight, and a budget have
+-- the numbers of a run of fields
+abbrev pub numbersIn : List ℕ → Field → ℕ → List ℕ
+numbersIn l f count = runOf l (f .at) (f .width) count
+
+-- the same field, where its number must be below this count
+abbrev pub below : Field → ℕ → Field
+below f count = fieldAs (f .at) (f .width) (Between 0 (count - 1)) (f .refusal)
+
+-- how many bytes a count or the number of a train or a choice, a scale, a cost, a lift or a move, W or a weight, and a budget have
+abbrev pub countWidth : ℕ
+countWidth = 1
+
+abbrev pub scaleWidth : ℕ
+scaleWidth = 2
+
 abbrev pub costWidth : ℕ
 costWidth = 3
 
@@ -55,124 +78,124 @@ costField at = fieldAs at costWidth (Between 0 maxCost) Cost
 
 -- 6: 'n, s, size or m outside the block's ranges'
 abbrev pub trainsField : Field
-trainsField = fieldAs 1 1 (Between 1 maxTrains) Range
+trainsField = fieldAs kindWidth countWidth (Between 1 maxTrains) Range
 
 abbrev pub loadTrains : List ℕ → ℕ
 loadTrains l = numberIn l trainsField
 
 abbrev pub scaleField : Field
-scaleField = fieldAs 2 2 (Between scaleMin scaleMax) Range
+scaleField = fieldAs (endOf trainsField) scaleWidth (Between scaleMin scaleMax) Range
 
 abbrev pub loadScale : List ℕ → ℕ
 loadScale l = numberIn l scaleField
 
-abbrev pub sizesAt : ℕ
-sizesAt = 4
-
 abbrev pub sizeField : Field
-sizeField = fieldAs sizesAt 1 (Between 1 maxChoices) Range
+sizeField = fieldAs (endOf scaleField) countWidth (Between 1 maxChoices) Range
 
 abbrev pub loadSize : List ℕ → ℕ → ℕ
-loadSize l i = field l (sizesAt + i) 1
+loadSize l i = numberIn l (further sizeField i)
 
-abbrev pub choicesAt : List ℕ → ℕ
-choicesAt l = sizesAt + loadTrains l
+abbrev pub choiceField : List ℕ → Field
+choiceField l = costField (further sizeField (loadTrains l) .at)
 
 -- how many choice costs there are
 abbrev pub choiceCount : List ℕ → ℕ
 choiceCount l = sum (loadTrains l) (loadSize l)
 
-abbrev pub pairCountAt : List ℕ → ℕ
-pairCountAt l = choicesAt l + costWidth * choiceCount l
-
 abbrev pub pairCountField : List ℕ → Field
-pairCountField l = fieldAs (pairCountAt l) 1 (Between 0 maxPairs) Range
+pairCountField l = fieldAs (further (choiceField l) (choiceCount l) .at) countWidth (Between 0 maxPairs) Range
 
 abbrev pub loadPairs : List ℕ → ℕ
 loadPairs l = numberIn l (pairCountField l)
 
--- how many costs a pair has whose fields begin at byte `at`: 'i, j (1 each), costs (3 each), a outer, b inner'
+-- a pair whose fields begin at byte `at`: 'i, j (1 each), costs (3 each), a outer, b inner'; i and j are any numbers, judged 'after both'
+abbrev pub trainField : ℕ → Field
+trainField at = fieldAs at countWidth Any Fields
+
+abbrev pub firstField : ℕ → Field
+firstField at = trainField at
+
+abbrev pub secondField : ℕ → Field
+secondField at = trainField (endOf (firstField at))
+
+-- how many bytes i and j have together
+abbrev pub pairWidth : ℕ
+pairWidth = 2 * countWidth
+
+abbrev pub entryField : ℕ → Field
+entryField at = costField (at + pairWidth)
+
+-- how many costs it has
 abbrev pub entryCount : List ℕ → ℕ → ℕ
-entryCount l at = loadSize l (field l at 1) * loadSize l (field l (at + 1) 1)
+entryCount l at = loadSize l (numberIn l (firstField at)) * loadSize l (numberIn l (secondField at))
 
 -- where pair k begins
 unfoldable pub pairAt : List ℕ → ℕ → ℕ
-pairAt l zero = pairCountAt l + 1
-pairAt l (suc k) = pairAt l k + 2 + costWidth * entryCount l (pairAt l k)
+pairAt l zero = endOf (pairCountField l)
+pairAt l (suc k) = further (entryField (pairAt l k)) (entryCount l (pairAt l k)) .at
 
 abbrev pub loadFirst : List ℕ → ℕ → ℕ
-loadFirst l k = field l (pairAt l k) 1
+loadFirst l k = numberIn l (firstField (pairAt l k))
 
 abbrev pub loadSecond : List ℕ → ℕ → ℕ
-loadSecond l k = field l (pairAt l k + 1) 1
+loadSecond l k = numberIn l (secondField (pairAt l k))
 
 -- ---- 02 add: 'train, choice (1 each), points (3)'
 
--- 9: 'train or choice absent', of so many that there are
-abbrev pub indexField : ℕ → ℕ → Field
-indexField at count = fieldAs at 1 (Between 0 (count - 1)) Absent
-
-abbrev pub addTrainAt : ℕ
-addTrainAt = 1
+-- 9: 'train or choice absent'; the block decides how many there are
+abbrev pub addTrainField : Field
+addTrainField = fieldAs kindWidth countWidth Any Absent
 
 abbrev pub addTrain : List ℕ → ℕ
-addTrain l = field l addTrainAt 1
+addTrain l = numberIn l addTrainField
 
-abbrev pub addChoiceAt : ℕ
-addChoiceAt = 2
+abbrev pub addChoiceField : Field
+addChoiceField = fieldAs (endOf addTrainField) countWidth Any Absent
 
 abbrev pub addChoice : List ℕ → ℕ
-addChoice l = field l addChoiceAt 1
+addChoice l = numberIn l addChoiceField
 
 abbrev pub pointsField : Field
-pointsField = costField 3
+pointsField = costField (endOf addChoiceField)
 
 abbrev pub addPoints : List ℕ → ℕ
 addPoints l = numberIn l pointsField
 
 -- ---- 03 shift: 'lifts u_i by train (6 each), then for each pair the moves'
 
-abbrev pub liftsAt : ℕ
-liftsAt = 1
-
-abbrev pub movesAt : ℕ → ℕ
-movesAt n = liftsAt + moveWidth * n
-
 -- 11: 'lift outside 0 to 10^12, move outside ±10^12'
 abbrev pub liftField : Field
-liftField = fieldAs liftsAt moveWidth (Between 0 maxMove) Move
+liftField = fieldAs kindWidth moveWidth (Between 0 maxMove) Move
 
+-- the first move behind n lifts
 abbrev pub moveField : ℕ → Field
-moveField n = fieldAs (movesAt n) moveWidth (Around maxMove) Move
+moveField n = fieldAs (further liftField n .at) moveWidth (Around maxMove) Move
 
 -- u_i of train i, and move k of a line with n lifts: 'All are two's complement'
 abbrev pub shiftLift : List ℕ → ℕ → ℤ
-shiftLift l i = signedField l (liftsAt + moveWidth * i) moveWidth
+shiftLift l i = signedIn l (further liftField i)
 
 abbrev pub shiftMove : List ℕ → ℕ → ℕ → ℤ
-shiftMove l n k = signedField l (movesAt n + moveWidth * k) moveWidth
+shiftMove l n k = signedIn l (further (moveField n) k)
 
 -- ---- 05 certify: 'W (3), weights w_i(a) (3 each), weights z_ij(a,b) (3 each)'
 
 -- 13: 'W outside 1 to 100,000'
 abbrev pub fullWeightField : Field
-fullWeightField = fieldAs 1 weightWidth (Between 1 maxFullWeight) FullWeight
+fullWeightField = fieldAs kindWidth weightWidth (Between 1 maxFullWeight) FullWeight
 
 abbrev pub certifyFullWeight : List ℕ → ℕ
 certifyFullWeight l = numberIn l fullWeightField
 
-abbrev pub weightsAt : ℕ
-weightsAt = 4
-
 -- a weight is any number of its width
 abbrev pub weightField : Field
-weightField = fieldAs weightsAt weightWidth Any Fields
+weightField = fieldAs (endOf fullWeightField) weightWidth Any Fields
 
 -- ---- 06 search: 'budget (4)'
 
 -- 15: 'budget outside 1 to 10,000,000'
 abbrev pub budgetField : Field
-budgetField = fieldAs 1 budgetWidth (Between 1 maxBudget) Budget
+budgetField = fieldAs kindWidth budgetWidth (Between 1 maxBudget) Budget
 
 abbrev pub searchBudget : List ℕ → ℕ
 searchBudget l = numberIn l budgetField

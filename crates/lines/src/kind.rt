@@ -1,6 +1,6 @@
 // Document 01, 'Lines': 'The first byte is the kind.'
 ghost use mathlib.Core.Path.{_≡_};
-ghost use Rattle.lines.specs.Kinds.{newKind, needsStudy};
+ghost use Rattle.lines.specs.Kinds.{kindNumber, newKind, needsStudy};
 
 pub enum Kind {
     Load,
@@ -34,6 +34,20 @@ impl Kind {
             5 => NewKind::Known(Kind::Certify),
             6 => NewKind::Known(Kind::Search),
             _ => NewKind::NoSuch,
+        }
+    }
+
+    // The number of this kind.
+    pub fn number(self) -> u64
+        ensures { λ r. ⌜ r ≡ kindNumber self ⌝ }
+    {
+        match self {
+            Kind::Load => 1,
+            Kind::Add => 2,
+            Kind::Shift => 3,
+            Kind::Tighten => 4,
+            Kind::Certify => 5,
+            Kind::Search => 6,
         }
     }
 

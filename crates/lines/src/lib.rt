@@ -1,7 +1,5 @@
-// What a line can ask and why it can be declined; how its fields are judged; and the load line.
-pub mod decode;
+// What a line can ask and why it can be declined; where the fields of each kind stand, and how fields are judged.
+pub mod field;
 pub mod kind;
-pub mod load;
-pub mod refusal;
 pub mod request;
 pub mod verdict;

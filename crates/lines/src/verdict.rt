@@ -1,17 +1,17 @@
 // Document 01, 'What is declined': fields from left to right, each judged as soon as it is read, and bytes left over.
 ghost use mathlib.Core.Path.{_≡_};
-ghost use Prim.Native.Nat.{_+_, _*_, _<_, _≤_, _^_};
+ghost use Prim.Native.Nat.{_+_, _<_, _≤_, _^_};
 ghost use mathlib.Core.Bool.{_&&_};
 ghost use lib.Dec.{leb};
 ghost use Rattle.frames.specs.Fields.{maxWidth};
 ghost use Rattle.frames.specs.Frames.{Framed};
-ghost use Rattle.lines.specs.Layout.{further};
-ghost use Rattle.lines.specs.Verdicts.{obeys, fieldVerdict, runVerdict, endVerdict, runsVerdict};
-use crate::refusal::Refusal;
-use crate::request::Field;
-use crate::request::Rule;
-use crate::request::Verdict;
+ghost use Rattle.lines.specs.Layout.{below};
+ghost use Rattle.lines.specs.Verdicts.{obeys, takesAny, fieldVerdict, runVerdict, endVerdict, runsVerdict, lastVerdict};
+use crate::field::Field;
+use crate::field::Rule;
 use frames::fields;
+use refusals::Refusal;
+use refusals::Verdict;
 
 // Whether a field's number is within its rule.
 fn obeys(rule: Rule, width: usize, v: u64) -> bool
@@ -35,7 +35,18 @@ fn between(low: u64, high: u64, v: u64) -> bool
     v <= high
 }
 
-// One field: declined where it is not wholly there, else judged by its rule.
+// Whether a rule takes any number.
+fn takes_any(rule: Rule) -> bool
+    ensures { λ r. ⌜ r ≡ takesAny rule ⌝ }
+{
+    match rule {
+        Rule::Any => true,
+        Rule::Between(_, _) => false,
+        Rule::Around(_) => false,
+    }
+}
+
+// One field: declined where it is not wholly there, else judged by its rule. Where any number will do, it is not read.
 pub fn field_verdict(line: &[u8], bytes: usize, f: Field) -> Verdict
     requires { ⌜ Framed (now line) bytes × (f .at < 2 ^ 40) × (f .width ≤ maxWidth) ⌝ }
     ensures { λ r. ⌜ r ≡ fieldVerdict (now (line .entry)) f ⌝ }
@@ -47,6 +58,9 @@ pub fn field_verdict(line: &[u8], bytes: usize, f: Field) -> Verdict
     if bytes < at + width {
         return Verdict::Declined(Refusal::Fields);
     }
+    if takes_any(rule) {
+        return Verdict::Fine;
+    }
     if obeys(rule, width, fields::field(line, at, width)) {
         Verdict::Fine
     } else {
@@ -54,19 +68,12 @@ pub fn field_verdict(line: &[u8], bytes: usize, f: Field) -> Verdict
     }
 }
 
-// Field k of a run that begins with this one.
-fn further(f: Field, k: usize) -> Field
-    requires { ⌜ (f .at < 2 ^ 32) × (f .width ≤ maxWidth) × (k < 2 ^ 32) ⌝ }
-    ensures { λ r. ⌜ r ≡ further f k ⌝ }
+// A field whose number must be below this count: a train or a choice.
+pub fn index_verdict(line: &[u8], bytes: usize, f: Field, count: usize) -> Verdict
+    requires { ⌜ Framed (now line) bytes × (f .at < 2 ^ 40) × (f .width ≤ maxWidth) × (1 ≤ count) ⌝ }
+    ensures { λ r. ⌜ r ≡ fieldVerdict (now (line .entry)) (below f count) ⌝ }
 {
-    let rule = f.rule;
-    let refusal = f.refusal;
-    Field {
-        at: f.at + f.width * k,
-        width: f.width,
-        rule,
-        refusal,
-    }
+    field_verdict(line, bytes, f.below(count))
 }
 
 // A run of fields, one after the other.
@@ -76,13 +83,25 @@ pub fn run_verdict(line: &[u8], bytes: usize, f: Field, count: usize) -> Verdict
 {
     let mut k = 0;
     while k < count {
-        let v = field_verdict(line, bytes, further(f, k));
+        let v = field_verdict(line, bytes, f.further(k));
         if !v.is_fine() {
             return v;
         }
         k += 1;
     }
     Verdict::Fine
+}
+
+// The last field, and no bytes left over.
+pub fn last_verdict(line: &[u8], bytes: usize, f: Field) -> Verdict
+    requires { ⌜ Framed (now line) bytes × (f .at < 2 ^ 40) × (f .width ≤ maxWidth) ⌝ }
+    ensures { λ r. ⌜ r ≡ lastVerdict (now (line .entry)) f ⌝ }
+{
+    let v = field_verdict(line, bytes, f);
+    if !v.is_fine() {
+        return v;
+    }
+    end_verdict(bytes, f.end())
 }
 
 // Two runs of fields, and no bytes left over.
@@ -106,7 +125,7 @@ pub fn runs_verdict(
     if !w.is_fine() {
         return w;
     }
-    let end = further(second, more);
+    let end = second.further(more);
     end_verdict(bytes, end.at)
 }
 

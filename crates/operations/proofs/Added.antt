@@ -9,15 +9,16 @@ use native.Mathlib.Omega.{arith}
 use lib.IntN.{ℤ, pos}
 use lib.ListN.{set}
 use borrow.Author.Tests.{lt-ltb, le-ltb}
-use Rattle.tables.specs.Sum.{update}
+use Rattle.theory.specs.Sum.{update}
+use Rattle.theory.proofs.Sum.{sum-cong, sum-one, update-same, update-other}
+use Rattle.refusals.specs.declared.Refusal.the-variants.{CostAbove, PartsOutside}
+use Rattle.refusals.specs.declared.Verdict.the-variants.{Fine, Declined}
 use Rattle.tables.specs.Block.{maxTrains, maxChoices, maxCost, maxParts, constantPlace, loadedChoicesFrom, heldChoicesFrom, choicePlace, loadedChoicePlace, heldChoicePlace, loadedEntryPlace, heldEntryPlace, figure, trains, scale, size, loadedChoice, heldChoice, loadedEntry, heldEntry}
-use Rattle.tables.specs.WellFormed.{from-to, usedIf, choiceUsed, limitsAt, Study}
+use Rattle.tables.specs.WellFormed.{fromTo, usedIf, choiceUsed, limitsAt, Study}
 use Rattle.tables.specs.Plans.{Shape, Costs, IsPlan, choiceTotal, pairTotal, total, shapeOf, loadedCosts, heldCosts, loadedTotal, heldTotal}
-use Rattle.tables.proofs.Sum.{sum-cong, sum-one, update-same, update-other}
 use Rattle.tables.proofs.Limits.{choice-used, limits-loaded-choices, limits-held-choices}
 use Rattle.tables.proofs.Study.{trains-range, size-range, SameShape, same-figure, same-trains, same-limits, put-same-shape, put-study, figure-at}
 use Rattle.tables.proofs.Plans.{same-shape-total, choice-at-most-total}
-use Rattle.operations.specs.declared.outcome.Outcome.the-variants.{Done, CostAbove, PartsOutside}
 use Rattle.operations.specs.Add.{added, addOutcome, addBlock}
 use Rattle.operations.proofs.LoadRuns.{Two, set-two-length, set-two-kept, set-two}
 
@@ -31,28 +32,15 @@ heldAfter i a p b = heldChoice b i a + scale b * p
 -- ---- the three ways of an addition
 
 module _ (i a p : ℕ) (b : List ℤ) where
-  pub cost-above : maxCost < loadedChoice b i a + p → (CostAbove ≡ addOutcome i a p b) × (b ≡ addBlock i a p b)
+  pub cost-above : maxCost < loadedChoice b i a + p → (Declined CostAbove ≡ addOutcome i a p b) × (b ≡ addBlock i a p b)
   cost-above h = rw (lt-ltb _ _ h) (refl, refl)
 
   module _ (h : loadedChoice b i a + p ≤ maxCost) where
-    pub parts-above : maxParts < heldChoice b i a + scale b * p → (PartsOutside ≡ addOutcome i a p b) × (b ≡ addBlock i a p b)
+    pub parts-above : maxParts < heldChoice b i a + scale b * p → (Declined PartsOutside ≡ addOutcome i a p b) × (b ≡ addBlock i a p b)
     parts-above q = rw (le-ltb _ _ h, lt-ltb _ _ q) (refl, refl)
 
-    pub both-within : heldChoice b i a + scale b * p ≤ maxParts → (Done ≡ addOutcome i a p b) × (added i a p b ≡ addBlock i a p b)
+    pub both-within : heldChoice b i a + scale b * p ≤ maxParts → (Fine ≡ addOutcome i a p b) × (added i a p b ≡ addBlock i a p b)
     both-within q = rw (le-ltb _ _ h, le-ltb _ _ q) (refl, refl)
-
-  -- one that is not declined has added, and one that is leaves the block
-  pub add-done : addOutcome i a p b ≡ Done → addBlock i a p b ≡ added i a p b
-  add-done e =
-      dite (decLt maxCost (loadedAfter i a p b)) (λ h. let w = cost-above h .0 in let z : _≡_ {A = ℕ} 0 1 = cc in absurd (omega arith))
-      (λ m. dite (decLt maxParts (heldAfter i a p b)) (λ q. let w = parts-above (omega arith) q .0 in let z : _≡_ {A = ℕ} 0 1 = cc in absurd (omega arith))
-      (λ n. sym (both-within (omega arith) (omega arith) .1)))
-
-  pub add-declined : addOutcome i a p b ≢ Done → addBlock i a p b ≡ b
-  add-declined e =
-      dite (decLt maxCost (loadedAfter i a p b)) (λ h. sym (cost-above h .1))
-      (λ m. dite (decLt maxParts (heldAfter i a p b)) (λ q. sym (parts-above (omega arith) q .1))
-      (λ n. absurd (e (sym (both-within (omega arith) (omega arith) .0)))))
 
   -- the two writes
   pub added-by : {c d : List ℤ} {x y : ℕ} → x ≡ loadedChoice b i a + p → y ≡ heldChoice b i a + scale b * p
@@ -64,10 +52,10 @@ module _ (i a p : ℕ) (b : List ℤ) where
 
 -- the limits of a choice that is there, in either table
 choice-limits : {b : List ℤ} → Study b → (i a from high : ℕ) → i < trains b → a < size b i
-    → ((o : ℕ) → o < maxTrains * maxChoices → limitsAt b (from + o) ≡ usedIf (choiceUsed b o) (from-to 0 high)) → limitsAt b (choicePlace from i a) ≡ from-to 0 high
+    → ((o : ℕ) → o < maxTrains * maxChoices → limitsAt b (from + o) ≡ usedIf (choiceUsed b o) (fromTo 0 high)) → limitsAt b (choicePlace from i a) ≡ fromTo 0 high
 choice-limits {b} s i a from high h q law =
     let used : choiceUsed b (maxChoices * i + a) ≡ true = choice-used b i a (omega (arith, size-range s i h)) ∙ rw (lt-ltb i (trains b) h, lt-ltb a (size b i) q) in
-    law (maxChoices * i + a) (omega (arith, trains-range s, size-range s i h)) ∙ ap (λ (t : Bool). usedIf t (from-to 0 high)) used
+    law (maxChoices * i + a) (omega (arith, trains-range s, size-range s i h)) ∙ ap (λ (t : Bool). usedIf t (fromTo 0 high)) used
 
 -- where one choice of a plan costs d more, and nothing else differs, the plan costs d more
 total-raised : (s : Shape) (t u : Costs) (x : ℕ → ℕ) (i d : ℕ) → i < s .trains → u .constant ≡ t .constant → u .choice i (x i) ≡ t .choice i (x i) + d
@@ -152,13 +140,13 @@ module _ {b : List ℤ} (s : Study b) (i a p : ℕ) (h : i < trains b) (q : a < 
   module _ (x : ℕ → ℕ) (plan : IsPlan (shapeOf b) x) where
     -- the plan's cost at train i decides
     loaded-raised : (d : ℕ) → loadedChoice (added i a p b) i (x i) ≡ loadedChoice b i (x i) + d → loadedTotal (added i a p b) x ≡ loadedTotal b x + d
-    unfolding shapeOf loadedCosts IsPlan
+    unfolding loadedCosts IsPlan
     loaded-raised d e =
         same-shape-total add-same-shape s (loadedCosts (added i a p b)) x
         ∙ total-raised (shapeOf b) (loadedCosts b) (loadedCosts (added i a p b)) x i d h refl e (λ j l n. other-choice j (x j) l (plan j l) (λ e. absurd (n e)) .0) (λ k. other-entry k _ _ .0)
 
     held-raised : (d : ℕ) → heldChoice (added i a p b) i (x i) ≡ heldChoice b i (x i) + d → heldTotal (added i a p b) x ≡ heldTotal b x + d
-    unfolding shapeOf heldCosts IsPlan
+    unfolding heldCosts IsPlan
     held-raised d e =
         same-shape-total add-same-shape s (heldCosts (added i a p b)) x
         ∙ total-raised (shapeOf b) (heldCosts b) (heldCosts (added i a p b)) x i d h (added-kept constantPlace (λ e. omega arith) (λ e. omega arith)) e
@@ -175,7 +163,7 @@ module _ {b : List ℤ} (s : Study b) (i a p : ℕ) (h : i < trains b) (q : a < 
     -- a plan that does not
     module _ (n : x i ≢ a) where
       kept : (loadedChoice (added i a p b) i (x i) ≡ loadedChoice b i (x i)) × (heldChoice (added i a p b) i (x i) ≡ heldChoice b i (x i))
-      unfolding shapeOf IsPlan
+      unfolding IsPlan
       kept = other-choice i (x i) h (plan i h) (λ _. n)
 
       pub add-loaded-total-kept : loadedTotal (added i a p b) x ≡ loadedTotal b x
@@ -191,13 +179,13 @@ module _ {b : List ℤ} (s : Study b) (i a p : ℕ) (h : i < trains b) (q : a < 
   chosen = update (λ _. 0) i a
 
   chosen-plan : IsPlan (shapeOf b) chosen
-  unfolding shapeOf IsPlan
+  unfolding IsPlan
   chosen-plan j l =
       dite (ℕ-discrete j i) (λ (e : j ≡ i). rw (update-same (λ _. 0) i a j e, e) q) (λ n. rw (update-other (λ _. 0) i a j n) (size-range s j l .0))
 
   -- no plan's total passes L, and the cost stays within its limit
-  pub add-within : loadedChoice b i a + p ≤ maxCost → ((x : ℕ → ℕ) → IsPlan (shapeOf b) x → heldTotal (added i a p b) x ≤ maxParts) → addOutcome i a p b ≡ Done
-  unfolding shapeOf heldCosts
+  pub add-within : loadedChoice b i a + p ≤ maxCost → ((x : ℕ → ℕ) → IsPlan (shapeOf b) x → heldTotal (added i a p b) x ≤ maxParts) → addOutcome i a p b ≡ Fine
+  unfolding heldCosts
   add-within k most = sym (both-within i a p b k held .0)
     where
       held : heldAfter i a p b ≤ maxParts

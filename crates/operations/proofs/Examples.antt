@@ -4,11 +4,11 @@ use mathlib.Core.List.{List, [], _∷_}
 use Prim.Native.Nat.{ℕ}
 use lib.Dec.{T, eqb}
 use lib.IntN.{ℤ}
-use Rattle.tables.specs.Sum.{sum}
+use Rattle.theory.specs.Sum.{sum}
+use Rattle.theory.specs.Fold.{iter}
+use Rattle.refusals.specs.Verdicts.{verdictNumber}
 use Rattle.tables.specs.Block.{figure, loadedChoicePlace, heldChoicePlace, loadedEntryPlace, heldEntryPlace}
 use Rattle.tables.specs.Numbers.{numbers}
-use Rattle.operations.specs.Fold.{iter}
-use Rattle.operations.specs.Outcome.{outcomeNumber}
 use Rattle.operations.specs.Add.{added, addOutcome, addBlock}
 use Rattle.operations.specs.Load.{loadedBlock}
 
@@ -44,7 +44,7 @@ pub record Case : Type 0 where
 pub right : List Case → Bool
 right [] = true
 right (c ∷ cs) =
-    (eqb (outcomeNumber (addOutcome (c .train) (c .choice) (c .points) (studyOf (c .scale)))) (c .answers) && leftRight (addBlock (c .train) (c .choice) (c .points) (studyOf (c .scale))) (c .leaves)) && right cs
+    (eqb (verdictNumber (addOutcome (c .train) (c .choice) (c .points) (studyOf (c .scale)))) (c .answers) && leftRight (addBlock (c .train) (c .choice) (c .points) (studyOf (c .scale))) (c .leaves)) && right cs
 
 pub table : List Case
 table =

@@ -1,5 +1,4 @@
 -- The laws of the crate, which callers cite: one file for each idea.
-pub mod Fold
 pub mod LoadTurns
 pub mod LoadRuns
 pub mod Loaded

@@ -8,12 +8,14 @@ use native.Mathlib.Omega.{arith}
 use lib.IntN.{ℤ, pos}
 use lib.ListN.{length, set, length-set}
 use lib.Seq.{getD-set-same, getD-set-other}
+use Rattle.theory.specs.Fold.{iter}
+use Rattle.theory.specs.Lists.{nth}
+use Rattle.theory.proofs.Fold.{iter-ind}
 use Rattle.tables.specs.Block.{blockLength, maxChoices, maxPairs, sizePlace, firstPlace, secondPlace, loadedChoicePlace, heldChoicePlace, loadedEntryPlace, heldEntryPlace, at}
-use Rattle.tables.specs.Numbers.{nth, choiceStart, lanesOf, entryStart}
-use Rattle.operations.specs.Fold.{iter}
-use Rattle.operations.specs.Load.{sizesLoaded, pairsLoaded, runLoaded, choicesLoaded, pairLoaded, entriesLoaded, SizesIn}
-use Rattle.operations.proofs.Fold.{iter-ind}
-use Rattle.operations.proofs.LoadTurns.{choiceCost, entryCost, sizeTurn, trainTurn, rowTurn, entriesTurn}
+use Rattle.tables.specs.Plans.{Shape}
+use Rattle.tables.specs.Counts.{rowsOf, columnsOf, choicesBefore, choiceIndex, entriesBefore, entryIndex}
+use Rattle.operations.specs.Load.{sizesLoaded, pairsLoaded, runLoaded, choicesLoaded, pairLoaded, entriesLoaded, SizesIn, trainsShape}
+use Rattle.operations.proofs.LoadTurns.{sizeTurn, trainTurn, rowTurn, entriesTurn}
 
 -- ---- turns that write a block
 
@@ -145,33 +147,33 @@ module _ (s : ℕ) (costs : List ℕ) (start loaded held count : ℕ) (b : List 
 -- ---- the choices
 
 module _ (s : ℕ) (sizes choices : List ℕ) (b : List ℤ) (r : SizesIn sizes) where
-  train-length : (i : ℕ) (x : List ℤ) → length (trainTurn s sizes choices i x) ≡ length x
-  train-length i x = run-length s choices (choiceStart sizes i) (loadedChoicePlace i 0) (heldChoicePlace i 0) (nth sizes i) x
+  train-length : (i : ℕ) (x : List ℤ) → length (trainTurn s (trainsShape sizes) choices i x) ≡ length x
+  train-length i x = run-length s choices (choicesBefore (trainsShape sizes) i) (loadedChoicePlace i 0) (heldChoicePlace i 0) (nth sizes i) x
 
   train-kept : (i : ℕ) (x : List ℤ) (p : ℕ) → ((a : ℕ) → a < nth sizes i → (p ≢ loadedChoicePlace i a) × (p ≢ heldChoicePlace i a))
-      → at (trainTurn s sizes choices i x) p ≡ at x p
+      → at (trainTurn s (trainsShape sizes) choices i x) p ≡ at x p
   train-kept i x p out =
-      run-kept s choices (choiceStart sizes i) (loadedChoicePlace i 0) (heldChoicePlace i 0) (nth sizes i) x p
+      run-kept s choices (choicesBefore (trainsShape sizes) i) (loadedChoicePlace i 0) (heldChoicePlace i 0) (nth sizes i) x p
       (λ a h. (λ e. out a h .0 (omega arith), λ e. out a h .1 (omega arith)))
 
-  pub choices-length : length (choicesLoaded s sizes choices b) ≡ length b
-  choices-length = turns-length (length sizes) (trainTurn s sizes choices) b train-length
+  pub choices-length : length (choicesLoaded s (trainsShape sizes) choices b) ≡ length b
+  choices-length = turns-length (length sizes) (trainTurn s (trainsShape sizes) choices) b train-length
 
   pub choices-kept : (p : ℕ) → ((i a : ℕ) → i < length sizes → a < nth sizes i → (p ≢ loadedChoicePlace i a) × (p ≢ heldChoicePlace i a))
-      → at (choicesLoaded s sizes choices b) p ≡ at b p
-  choices-kept p out = turns-kept (length sizes) (trainTurn s sizes choices) b p (λ i x h. train-kept i x p (λ a q. out i a h q))
+      → at (choicesLoaded s (trainsShape sizes) choices b) p ≡ at b p
+  choices-kept p out = turns-kept (length sizes) (trainTurn s (trainsShape sizes) choices) b p (λ i x h. train-kept i x p (λ a q. out i a h q))
 
   pub choices-two : length b ≡ blockLength → (i a : ℕ) → i < length sizes → a < nth sizes i
-      → Priced s (loadedChoicePlace i a) (heldChoicePlace i a) (choiceCost sizes choices i a) (choicesLoaded s sizes choices b)
+      → Priced s (loadedChoicePlace i a) (heldChoicePlace i a) (nth choices (choiceIndex (trainsShape sizes) i a)) (choicesLoaded s (trainsShape sizes) choices b)
   choices-two whole i a h q =
       let fits = r .small i h in
       let few = r .few in
       let at-loaded : loadedChoicePlace i 0 + a ≡ loadedChoicePlace i a = omega arith in
       let at-held : heldChoicePlace i 0 + a ≡ heldChoicePlace i a = omega arith in
-      turns-made (length sizes) (trainTurn s sizes choices) b
-      (Priced s (loadedChoicePlace i a) (heldChoicePlace i a) (choiceCost sizes choices i a)) i h train-length
-      (λ x e. rw (at-loaded, at-held) at (run-two s choices (choiceStart sizes i) (loadedChoicePlace i 0) (heldChoicePlace i 0) (nth sizes i) x (omega arith) (omega arith) a q))
-      (λ j x l n t. let wide = r .small j l in two-kept (trainTurn s sizes choices j x) t
+      turns-made (length sizes) (trainTurn s (trainsShape sizes) choices) b
+      (Priced s (loadedChoicePlace i a) (heldChoicePlace i a) (nth choices (choiceIndex (trainsShape sizes) i a))) i h train-length
+      (λ x e. rw (at-loaded, at-held) at (run-two s choices (choicesBefore (trainsShape sizes) i) (loadedChoicePlace i 0) (heldChoicePlace i 0) (nth sizes i) x (omega arith) (omega arith) a q))
+      (λ j x l n t. let wide = r .small j l in two-kept (trainTurn s (trainsShape sizes) choices j x) t
       (train-kept j x (loadedChoicePlace i a) (λ c k. (λ e. n (omega arith), λ e. omega arith)))
       (train-kept j x (heldChoicePlace i a) (λ c k. (λ e. omega arith, λ e. n (omega arith)))))
 
@@ -208,34 +210,34 @@ module _ (s : ℕ) (entries : List ℕ) (start rows columns k : ℕ) (b : List �
 
 -- ---- the entries of all pairs
 
-module _ (s : ℕ) (sizes firsts seconds entries : List ℕ) (b : List ℤ) where
+module _ (s : ℕ) (t : Shape) (entries : List ℕ) (b : List ℤ) where
   abbrev turn : ℕ → List ℤ → List ℤ
-  turn = entriesTurn s sizes firsts seconds entries
+  turn = entriesTurn s t entries
 
   turn-length : (k : ℕ) (x : List ℤ) → length (turn k x) ≡ length x
-  turn-length k x = pair-length s entries (entryStart sizes firsts seconds k) (lanesOf sizes firsts k) (lanesOf sizes seconds k) k x
+  turn-length k x = pair-length s entries (entriesBefore t k) (rowsOf t k) (columnsOf t k) k x
 
   turn-kept : (k : ℕ) (x : List ℤ) (p : ℕ)
-      → ((a c : ℕ) → a < lanesOf sizes firsts k → c < lanesOf sizes seconds k → (p ≢ loadedEntryPlace k a c) × (p ≢ heldEntryPlace k a c)) → at (turn k x) p ≡ at x p
-  turn-kept k x p out = pair-kept s entries (entryStart sizes firsts seconds k) (lanesOf sizes firsts k) (lanesOf sizes seconds k) k x p out
+      → ((a c : ℕ) → a < rowsOf t k → c < columnsOf t k → (p ≢ loadedEntryPlace k a c) × (p ≢ heldEntryPlace k a c)) → at (turn k x) p ≡ at x p
+  turn-kept k x p out = pair-kept s entries (entriesBefore t k) (rowsOf t k) (columnsOf t k) k x p out
 
-  pub entries-length : length (entriesLoaded s sizes firsts seconds entries b) ≡ length b
-  entries-length = turns-length (length firsts) turn b turn-length
+  pub entries-length : length (entriesLoaded s t entries b) ≡ length b
+  entries-length = turns-length (t .pairs) turn b turn-length
 
   pub entries-kept : (p : ℕ)
-      → ((k a c : ℕ) → k < length firsts → a < lanesOf sizes firsts k → c < lanesOf sizes seconds k → (p ≢ loadedEntryPlace k a c) × (p ≢ heldEntryPlace k a c))
-      → at (entriesLoaded s sizes firsts seconds entries b) p ≡ at b p
-  entries-kept p out = turns-kept (length firsts) turn b p (λ k x h. turn-kept k x p (λ a c. out k a c h))
+      → ((k a c : ℕ) → k < t .pairs → a < rowsOf t k → c < columnsOf t k → (p ≢ loadedEntryPlace k a c) × (p ≢ heldEntryPlace k a c))
+      → at (entriesLoaded s t entries b) p ≡ at b p
+  entries-kept p out = turns-kept (t .pairs) turn b p (λ k x h. turn-kept k x p (λ a c. out k a c h))
 
-  pub entries-two : length b ≡ blockLength → length firsts ≤ maxPairs
-      → ((k : ℕ) → k < length firsts → (lanesOf sizes firsts k ≤ maxChoices) × (lanesOf sizes seconds k ≤ maxChoices))
-      → (k a c : ℕ) → k < length firsts → a < lanesOf sizes firsts k → c < lanesOf sizes seconds k
-      → Priced s (loadedEntryPlace k a c) (heldEntryPlace k a c) (entryCost sizes firsts seconds entries k a c) (entriesLoaded s sizes firsts seconds entries b)
+  pub entries-two : length b ≡ blockLength → t .pairs ≤ maxPairs
+      → ((k : ℕ) → k < t .pairs → (rowsOf t k ≤ maxChoices) × (columnsOf t k ≤ maxChoices))
+      → (k a c : ℕ) → k < t .pairs → a < rowsOf t k → c < columnsOf t k
+      → Priced s (loadedEntryPlace k a c) (heldEntryPlace k a c) (nth entries (entryIndex t k a c)) (entriesLoaded s t entries b)
   entries-two whole few fit k a c h p q =
       let fits = fit k h in
-      turns-made (length firsts) turn b
-      (Priced s (loadedEntryPlace k a c) (heldEntryPlace k a c) (entryCost sizes firsts seconds entries k a c)) k h turn-length
-      (λ x e. pair-two s entries (entryStart sizes firsts seconds k) (lanesOf sizes firsts k) (lanesOf sizes seconds k) k x (e ∙ whole) (fits .0) (fits .1) (omega arith) a c p q)
-      (λ j x l n t. let wide = fit j l in two-kept (turn j x) t
+      turns-made (t .pairs) turn b
+      (Priced s (loadedEntryPlace k a c) (heldEntryPlace k a c) (nth entries (entryIndex t k a c))) k h turn-length
+      (λ x e. pair-two s entries (entriesBefore t k) (rowsOf t k) (columnsOf t k) k x (e ∙ whole) (fits .0) (fits .1) (omega arith) a c p q)
+      (λ j x l n w. let wide = fit j l in two-kept (turn j x) w
       (turn-kept j x (loadedEntryPlace k a c) (λ d m u v. (λ e. n (omega arith), λ e. omega arith)))
       (turn-kept j x (heldEntryPlace k a c) (λ d m u v. (λ e. omega arith, λ e. n (omega arith)))))

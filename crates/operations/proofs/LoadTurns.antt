@@ -7,23 +7,16 @@ use native.Mathlib.Omega.{arith}
 use lib.IntN.{ℤ, pos}
 use lib.ListN.{length, set, take, replicate, replicate-append-replicate}
 use lib.Seq.{take-suc-set}
+use Rattle.theory.specs.Fold.{iter}
+use Rattle.theory.specs.Lists.{nth}
+use Rattle.theory.proofs.Fold.{iter-more}
 use Rattle.units.specs.Units.{Sound, theScale}
 use Rattle.tables.specs.Block.{trainsPlace, scalePlace, pairsPlace, sizePlace, firstPlace, secondPlace, loadedChoicePlace, heldChoicePlace, loadedEntryPlace, heldEntryPlace}
 use Rattle.tables.specs.WellFormed.{freshBlock}
-use Rattle.tables.specs.Numbers.{Numbers, nth, choiceStart, lanesOf, entryStart, InRange}
-use Rattle.operations.specs.Fold.{iter}
+use Rattle.tables.specs.Numbers.{Numbers, InRange, numbersShape}
+use Rattle.tables.specs.Plans.{Shape}
+use Rattle.tables.specs.Counts.{rowsOf, columnsOf, choicesBefore, entriesBefore}
 use Rattle.operations.specs.Load.{headLoaded, sizesLoaded, pairsLoaded, runLoaded, choicesLoaded, pairLoaded, entriesLoaded, loadedBlock, SizesIn, PairsIn}
-use Rattle.operations.proofs.Fold.{iter-more}
-
--- ---- where a load has its costs
-
--- the cost of choice a of train i, in points
-abbrev pub choiceCost : List ℕ → List ℕ → ℕ → ℕ → ℕ
-choiceCost sizes choices i a = nth choices (choiceStart sizes i + a)
-
--- the cost of the choices a and c of pair k, in points
-abbrev pub entryCost : List ℕ → List ℕ → List ℕ → List ℕ → ℕ → ℕ → ℕ → ℕ
-entryCost sizes firsts seconds entries k a c = nth entries (entryStart sizes firsts seconds k + lanesOf sizes seconds k * a + c)
 
 -- ---- the turns of the loops
 
@@ -36,14 +29,14 @@ pairTurn firsts seconds k d = set (set d (firstPlace k) (pos (nth firsts k))) (s
 abbrev pub runTurn : ℕ → List ℕ → ℕ → ℕ → ℕ → ℕ → List ℤ → List ℤ
 runTurn s costs start loaded held a d = set (set d (loaded + a) (pos (nth costs (start + a)))) (held + a) (pos (s * nth costs (start + a)))
 
-abbrev pub trainTurn : ℕ → List ℕ → List ℕ → ℕ → List ℤ → List ℤ
-trainTurn s sizes choices i = runLoaded s choices (choiceStart sizes i) (loadedChoicePlace i 0) (heldChoicePlace i 0) (nth sizes i)
+abbrev pub trainTurn : ℕ → Shape → List ℕ → ℕ → List ℤ → List ℤ
+trainTurn s t choices i = runLoaded s choices (choicesBefore t i) (loadedChoicePlace i 0) (heldChoicePlace i 0) (t .size i)
 
 abbrev pub rowTurn : ℕ → List ℕ → ℕ → ℕ → ℕ → ℕ → List ℤ → List ℤ
 rowTurn s entries start columns k a = runLoaded s entries (start + columns * a) (loadedEntryPlace k a 0) (heldEntryPlace k a 0) columns
 
-abbrev pub entriesTurn : ℕ → List ℕ → List ℕ → List ℕ → List ℕ → ℕ → List ℤ → List ℤ
-entriesTurn s sizes firsts seconds entries k = pairLoaded s entries (entryStart sizes firsts seconds k) (lanesOf sizes firsts k) (lanesOf sizes seconds k) k
+abbrev pub entriesTurn : ℕ → Shape → List ℕ → ℕ → List ℤ → List ℤ
+entriesTurn s t entries k = pairLoaded s entries (entriesBefore t k) (rowsOf t k) (columnsOf t k) k
 
 -- ---- a turn of the code, as its calls say it
 
@@ -72,8 +65,8 @@ pair-at s entries rows columns k e p q = e ∙ (λ i. pairLoaded s entries (p i)
 
 pub loaded-by : (l : Numbers) {c d e f g : List ℤ}
     → c ≡ headLoaded (length (l .sizes)) (l .scale) (length (l .firsts)) freshBlock
-    → d ≡ sizesLoaded (l .sizes) c → e ≡ pairsLoaded (l .firsts) (l .seconds) d → f ≡ choicesLoaded (l .scale) (l .sizes) (l .choices) e
-    → g ≡ entriesLoaded (l .scale) (l .sizes) (l .firsts) (l .seconds) (l .entries) f → g ≡ loadedBlock l
+    → d ≡ sizesLoaded (l .sizes) c → e ≡ pairsLoaded (l .firsts) (l .seconds) d → f ≡ choicesLoaded (l .scale) (numbersShape l) (l .choices) e
+    → g ≡ entriesLoaded (l .scale) (numbersShape l) (l .entries) f → g ≡ loadedBlock l
 unfolding loadedBlock
 loaded-by l p q r t u = rw (u, t, r, q, p)
 
@@ -88,5 +81,3 @@ module _ {l : Numbers} (r : InRange l) where
 
   pub in-pairs : (n : ℕ) → length (l .sizes) ≤ n → PairsIn n (l .firsts) (l .seconds)
   in-pairs n h = record { few = r .pairs .0; same = r .pairs .1; first = λ k q. omega (arith, r .below k q); second = λ k q. omega (arith, r .below k q) }
-
--- ---- where the costs begin

@@ -12,18 +12,20 @@ use lib.IntN.{ℤ, pos}
 use lib.ListN.{length, set, length-set, length-replicate, getD-replicate}
 use lib.Seq.{getD-set-same, getD-set-other}
 use borrow.Author.Tests.{lt-ltb, ltb-true, ltb-false, eq-eqb, ne-eqb}
+use Rattle.theory.specs.Sum.{sum}
+use Rattle.theory.specs.Lists.{nth}
+use Rattle.theory.proofs.Range.{both-true}
+use Rattle.theory.proofs.Sum.{sum-cong, sum-scale}
 use Rattle.units.specs.Units.{scaleMin, scaleMax}
-use Rattle.tables.specs.Sum.{sum}
 use Rattle.tables.specs.Block.{blockLength, maxTrains, maxChoices, maxPairs, maxCost, maxParts, trainsPlace, scalePlace, pairsPlace, constantPlace, sizesFrom, firstsFrom, secondsFrom, sizePlace, firstPlace, secondPlace, loadedChoicesFrom, heldChoicesFrom, loadedEntriesFrom, heldEntriesFrom, entriesOfPair, loadedChoicePlace, heldChoicePlace, loadedEntryPlace, heldEntryPlace, at, trains, scale, pairs, constant, size, first, second, loadedChoice, heldChoice, loadedEntry, heldEntry}
-use Rattle.tables.specs.WellFormed.{Limits, from-to, within, usedIf, choiceUsed, entryUsed, headLimits, limitsAt, follows, pairRight, Study, freshBlock}
+use Rattle.tables.specs.WellFormed.{Limits, fromTo, within, usedIf, choiceUsed, entryUsed, headLimits, limitsAt, follows, pairRight, Study, freshBlock}
 use Rattle.tables.specs.Plans.{IsPlan, choiceTotal, pairTotal, total, shapeOf, loadedCosts, heldCosts, loadedTotal, heldTotal}
-use Rattle.tables.specs.Numbers.{Numbers, nth, lanesOf, InRange}
-use Rattle.tables.proofs.Range.{both-true}
+use Rattle.tables.specs.Numbers.{Numbers, InRange, numbersShape, numbersCosts}
+use Rattle.tables.specs.Counts.{rowsOf, columnsOf}
 use Rattle.tables.proofs.Limits.{within-pos, choice-used, entry-used, limits-head, limits-size, limits-first, limits-second, limits-loaded-choices, limits-held-choices, limits-loaded-entries, limits-held-entries}
-use Rattle.tables.proofs.Sum.{sum-cong, sum-scale}
 use Rattle.tables.proofs.Study.{figure-at}
 use Rattle.operations.specs.Load.{headLoaded, sizesLoaded, pairsLoaded, choicesLoaded, loadedBlock}
-use Rattle.operations.proofs.LoadTurns.{choiceCost, entryCost, in-sizes}
+use Rattle.operations.proofs.LoadTurns.{in-sizes}
 use Rattle.operations.proofs.LoadRuns.{Two, Priced, two-kept, sizes-length, sizes-kept, sizes-at, pairs-length, pairs-kept, pairs-two, choices-length, choices-kept, choices-two, entries-length, entries-kept, entries-two}
 
 -- ---- the head
@@ -63,7 +65,7 @@ abbrev shaped : Numbers → List ℤ
 shaped l = pairsLoaded (l .firsts) (l .seconds) (sized l)
 
 abbrev priced : Numbers → List ℤ
-priced l = choicesLoaded (l .scale) (l .sizes) (l .choices) (shaped l)
+priced l = choicesLoaded (l .scale) (numbersShape l) (l .choices) (shaped l)
 
 module _ {l : Numbers} (r : InRange l) where
   headed-length : length (headed l) ≡ blockLength
@@ -80,12 +82,12 @@ module _ {l : Numbers} (r : InRange l) where
 
   pub load-length : length (loadedBlock l) ≡ blockLength
   unfolding loadedBlock
-  load-length = entries-length (l .scale) (l .sizes) (l .firsts) (l .seconds) (l .entries) (priced l) ∙ priced-length
+  load-length = entries-length (l .scale) (numbersShape l) (l .entries) (priced l) ∙ priced-length
 
   -- the entries are past the other places
   before-entries : (p : ℕ) → p < loadedEntriesFrom → at (loadedBlock l) p ≡ at (priced l) p
   unfolding loadedBlock
-  before-entries p h = entries-kept (l .scale) (l .sizes) (l .firsts) (l .seconds) (l .entries) (priced l) p (λ k a c i q t. (λ e. omega arith, λ e. omega arith))
+  before-entries p h = entries-kept (l .scale) (numbersShape l) (l .entries) (priced l) p (λ k a c i q t. (λ e. omega arith, λ e. omega arith))
 
   -- and the choices past the shape
   before-choices : (p : ℕ) → p < loadedChoicesFrom → at (loadedBlock l) p ≡ at (shaped l) p
@@ -141,7 +143,7 @@ module _ {l : Numbers} (r : InRange l) where
       (before-choices (firstPlace k) (omega (arith, r .pairs .0))) (before-choices (secondPlace k) (omega (arith, r .pairs .0)))
 
   pub at-choice : (i a : ℕ) → i < length (l .sizes) → a < nth (l .sizes) i
-      → Priced (l .scale) (loadedChoicePlace i a) (heldChoicePlace i a) (choiceCost (l .sizes) (l .choices) i a) (loadedBlock l)
+      → Priced (l .scale) (loadedChoicePlace i a) (heldChoicePlace i a) (numbersCosts l .choice i a) (loadedBlock l)
   at-choice i a h q =
       let few = r .trains .1 in
       let small = r .sizes i h .1 in
@@ -149,14 +151,14 @@ module _ {l : Numbers} (r : InRange l) where
       (before-entries (loadedChoicePlace i a) (omega arith)) (before-entries (heldChoicePlace i a) (omega arith))
 
   -- a pair has at most 8 rows and 8 columns
-  pair-lanes : (k : ℕ) → k < length (l .firsts) → (lanesOf (l .sizes) (l .firsts) k ≤ maxChoices) × (lanesOf (l .sizes) (l .seconds) k ≤ maxChoices)
+  pair-lanes : (k : ℕ) → k < length (l .firsts) → (rowsOf (numbersShape l) k ≤ maxChoices) × (columnsOf (numbersShape l) k ≤ maxChoices)
   pair-lanes k h =
       let b = r .below k h in (r .sizes (nth (l .firsts) k) (omega arith) .1, r .sizes (nth (l .seconds) k) (b .1) .1)
 
-  pub at-entry : (k a c : ℕ) → k < length (l .firsts) → a < lanesOf (l .sizes) (l .firsts) k → c < lanesOf (l .sizes) (l .seconds) k
-      → Priced (l .scale) (loadedEntryPlace k a c) (heldEntryPlace k a c) (entryCost (l .sizes) (l .firsts) (l .seconds) (l .entries) k a c) (loadedBlock l)
+  pub at-entry : (k a c : ℕ) → k < length (l .firsts) → a < rowsOf (numbersShape l) k → c < columnsOf (numbersShape l) k
+      → Priced (l .scale) (loadedEntryPlace k a c) (heldEntryPlace k a c) (numbersCosts l .pair k a c) (loadedBlock l)
   unfolding loadedBlock
-  at-entry = entries-two (l .scale) (l .sizes) (l .firsts) (l .seconds) (l .entries) (priced l) priced-length (r .pairs .0) pair-lanes
+  at-entry = entries-two (l .scale) (numbersShape l) (l .entries) (priced l) priced-length (r .pairs .0) pair-lanes
 
   -- ---- unused places
 
@@ -181,11 +183,11 @@ module _ {l : Numbers} (r : InRange l) where
       before-entries p q ∙ choices-kept (l .scale) (l .sizes) (l .choices) (shaped l) (in-sizes r) p out ∙ past-shape p h (omega arith)
 
   pub no-entry : (p : ℕ) → loadedEntriesFrom ≤ p → p < blockLength
-      → ((k a c : ℕ) → k < length (l .firsts) → a < lanesOf (l .sizes) (l .firsts) k → c < lanesOf (l .sizes) (l .seconds) k → (p ≢ loadedEntryPlace k a c) × (p ≢ heldEntryPlace k a c))
+      → ((k a c : ℕ) → k < length (l .firsts) → a < rowsOf (numbersShape l) k → c < columnsOf (numbersShape l) k → (p ≢ loadedEntryPlace k a c) × (p ≢ heldEntryPlace k a c))
       → at (loadedBlock l) p ≡ pos 0
   unfolding loadedBlock
   no-entry p h q out =
-      entries-kept (l .scale) (l .sizes) (l .firsts) (l .seconds) (l .entries) (priced l) p out
+      entries-kept (l .scale) (numbersShape l) (l .entries) (priced l) p out
       ∙ choices-kept (l .scale) (l .sizes) (l .choices) (shaped l) (in-sizes r) p
       (λ i a t u. let few = r .trains .1 in let small = r .sizes i t .1 in (λ e. omega arith, λ e. omega arith)) ∙ past-shape p (omega arith) q
 
@@ -213,17 +215,17 @@ module _ {l : Numbers} (r : InRange l) where
   load-second k h = figure-at (loadedBlock l) (secondPlace k) (nth (l .seconds) k) (at-pair k h .other)
 
   module _ (i a : ℕ) (h : i < length (l .sizes)) (q : a < nth (l .sizes) i) where
-    pub load-loaded-choice : loadedChoice (loadedBlock l) i a ≡ choiceCost (l .sizes) (l .choices) i a
+    pub load-loaded-choice : loadedChoice (loadedBlock l) i a ≡ numbersCosts l .choice i a
     load-loaded-choice = figure-at (loadedBlock l) (loadedChoicePlace i a) _ (at-choice i a h q .one)
 
-    pub load-held-choice : heldChoice (loadedBlock l) i a ≡ l .scale * choiceCost (l .sizes) (l .choices) i a
+    pub load-held-choice : heldChoice (loadedBlock l) i a ≡ l .scale * numbersCosts l .choice i a
     load-held-choice = figure-at (loadedBlock l) (heldChoicePlace i a) _ (at-choice i a h q .other)
 
-  module _ (k a c : ℕ) (h : k < length (l .firsts)) (p : a < lanesOf (l .sizes) (l .firsts) k) (q : c < lanesOf (l .sizes) (l .seconds) k) where
-    pub load-loaded-entry : loadedEntry (loadedBlock l) k a c ≡ entryCost (l .sizes) (l .firsts) (l .seconds) (l .entries) k a c
+  module _ (k a c : ℕ) (h : k < length (l .firsts)) (p : a < rowsOf (numbersShape l) k) (q : c < columnsOf (numbersShape l) k) where
+    pub load-loaded-entry : loadedEntry (loadedBlock l) k a c ≡ numbersCosts l .pair k a c
     load-loaded-entry = figure-at (loadedBlock l) (loadedEntryPlace k a c) _ (at-entry k a c h p q .one)
 
-    pub load-held-entry : heldEntry (loadedBlock l) k a c ≡ l .scale * entryCost (l .sizes) (l .firsts) (l .seconds) (l .entries) k a c
+    pub load-held-entry : heldEntry (loadedBlock l) k a c ≡ l .scale * numbersCosts l .pair k a c
     load-held-entry = figure-at (loadedBlock l) (heldEntryPlace k a c) _ (at-entry k a c h p q .other)
 
 -- ---- the block holds a study
@@ -235,20 +237,20 @@ place-right : (b : List ℤ) (p v : ℕ) (m : Limits) → limitsAt b p ≡ m →
 place-right b p v m e f low high = rw (e, f) (within-pos m v low high)
 
 -- a place whose use is decided by a test
-used-right : (b : List ℤ) (p v : ℕ) (t : Bool) (low high : ℕ) → limitsAt b p ≡ usedIf t (from-to low high)
+used-right : (b : List ℤ) (p v : ℕ) (t : Bool) (low high : ℕ) → limitsAt b p ≡ usedIf t (fromTo low high)
     → (t ≡ true → (at b p ≡ pos v) × (low ≤ v) × (v ≤ high)) → (t ≡ false → at b p ≡ pos 0) → Right b p
-used-right b p v true low high e f g = let w = f refl in place-right b p v (from-to low high) e (w .0) (w .1) (w .2)
-used-right b p v false low high e f g = place-right b p 0 (from-to 0 0) e (g refl) (omega arith) (omega arith)
+used-right b p v true low high e f g = let w = f refl in place-right b p v (fromTo low high) e (w .0) (w .1) (w .2)
+used-right b p v false low high e f g = place-right b p 0 (fromTo 0 0) e (g refl) (omega arith) (omega arith)
 
 module _ {l : Numbers} (r : InRange l) where
   head-right : (p : ℕ) → p < sizesFrom → Right (loadedBlock l) p
   unfolding headLimits
   head-right p h =
       let b = loadedBlock l in
-      dite (ℕ-discrete p trainsPlace) (λ (e : p ≡ trainsPlace). rw e (place-right b trainsPlace _ (from-to 1 maxTrains) (limits-head b trainsPlace (omega arith)) (at-trains r) (r .trains .0) (r .trains .1)))
-      (λ n. dite (ℕ-discrete p scalePlace) (λ (e : p ≡ scalePlace). rw e (place-right b scalePlace _ (from-to scaleMin scaleMax) (limits-head b scalePlace (omega arith)) (at-scale r) (r .scale .0) (r .scale .1)))
-      (λ k. dite (ℕ-discrete p pairsPlace) (λ (e : p ≡ pairsPlace). rw e (place-right b pairsPlace _ (from-to 0 maxPairs) (limits-head b pairsPlace (omega arith)) (at-pairs r) (omega arith) (r .pairs .0)))
-      (λ m. let e : p ≡ constantPlace = omega arith in rw e (place-right b constantPlace 0 (from-to 0 maxParts) (limits-head b constantPlace (omega arith)) (at-constant r) (omega arith) (omega arith)))))
+      dite (ℕ-discrete p trainsPlace) (λ (e : p ≡ trainsPlace). rw e (place-right b trainsPlace _ (fromTo 1 maxTrains) (limits-head b trainsPlace (omega arith)) (at-trains r) (r .trains .0) (r .trains .1)))
+      (λ n. dite (ℕ-discrete p scalePlace) (λ (e : p ≡ scalePlace). rw e (place-right b scalePlace _ (fromTo scaleMin scaleMax) (limits-head b scalePlace (omega arith)) (at-scale r) (r .scale .0) (r .scale .1)))
+      (λ k. dite (ℕ-discrete p pairsPlace) (λ (e : p ≡ pairsPlace). rw e (place-right b pairsPlace _ (fromTo 0 maxPairs) (limits-head b pairsPlace (omega arith)) (at-pairs r) (omega arith) (r .pairs .0)))
+      (λ m. let e : p ≡ constantPlace = omega arith in rw e (place-right b constantPlace 0 (fromTo 0 maxParts) (limits-head b constantPlace (omega arith)) (at-constant r) (omega arith) (omega arith)))))
 
   size-right : (i : ℕ) → i < maxTrains → Right (loadedBlock l) (sizePlace i)
   size-right i h =
@@ -257,7 +259,7 @@ module _ {l : Numbers} (r : InRange l) where
       (λ f. no-size r i (omega (arith, ltb-false, load-trains r)) h)
 
   -- either of a pair's trains
-  pair-right : (from : ℕ) (list : List ℕ) (k : ℕ) → limitsAt (loadedBlock l) (from + k) ≡ usedIf (ltb k (pairs (loadedBlock l))) (from-to 0 (maxTrains - 1))
+  pair-right : (from : ℕ) (list : List ℕ) (k : ℕ) → limitsAt (loadedBlock l) (from + k) ≡ usedIf (ltb k (pairs (loadedBlock l))) (fromTo 0 (maxTrains - 1))
       → (k < length (l .firsts) → (at (loadedBlock l) (from + k) ≡ pos (nth list k)) × (nth list k < length (l .sizes)))
       → (length (l .firsts) ≤ k → at (loadedBlock l) (from + k) ≡ pos 0) → Right (loadedBlock l) (from + k)
   pair-right from list k e f g =
@@ -275,12 +277,12 @@ module _ {l : Numbers} (r : InRange l) where
 
   -- ---- the tables of choices
 
-  choice-there : (o : ℕ) → choiceUsed (loadedBlock l) o ≡ true → (o / 8 < length (l .sizes)) × (o % 8 < nth (l .sizes) (o / 8))
+  choice-there : (o : ℕ) → choiceUsed (loadedBlock l) o ≡ true → (o / maxChoices < length (l .sizes)) × (o % maxChoices < nth (l .sizes) (o / maxChoices))
   unfolding choiceUsed
   choice-there o t =
-      let w = both-true (ltb (o / 8) (trains (loadedBlock l))) (ltb (o % 8) (size (loadedBlock l) (o / 8))) t in
-      let h : o / 8 < length (l .sizes) = omega (arith, ltb-true, load-trains r) in
-      (h, omega (arith, ltb-true, load-size r (o / 8) h))
+      let w = both-true (ltb (o / maxChoices) (trains (loadedBlock l))) (ltb (o % maxChoices) (size (loadedBlock l) (o / maxChoices))) t in
+      let h : o / maxChoices < length (l .sizes) = omega (arith, ltb-true, load-trains r) in
+      (h, omega (arith, ltb-true, load-size r (o / maxChoices) h))
 
   choice-apart : (o : ℕ) → choiceUsed (loadedBlock l) o ≡ false → (i a : ℕ) → i < length (l .sizes) → a < nth (l .sizes) i → o ≢ maxChoices * i + a
   choice-apart o f i a h q e =
@@ -292,11 +294,11 @@ module _ {l : Numbers} (r : InRange l) where
 
   -- H and T at a used offset
   choice-at : (o : ℕ) → choiceUsed (loadedBlock l) o ≡ true
-      → Priced (l .scale) (loadedChoicesFrom + o) (heldChoicesFrom + o) (choiceCost (l .sizes) (l .choices) (o / 8) (o % 8)) (loadedBlock l)
+      → Priced (l .scale) (loadedChoicesFrom + o) (heldChoicesFrom + o) (numbersCosts l .choice (o / maxChoices) (o % maxChoices)) (loadedBlock l)
   choice-at o t =
       let w = choice-there o t in
-      let e : maxChoices * (o / 8) + o % 8 ≡ o = omega arith in
-      rw e at (at-choice r (o / 8) (o % 8) (w .0) (w .1))
+      let e : maxChoices * (o / maxChoices) + o % maxChoices ≡ o = omega arith in
+      rw e at (at-choice r (o / maxChoices) (o % maxChoices) (w .0) (w .1))
 
   in-parts : (c : ℕ) → c ≤ maxCost → l .scale * c ≤ maxParts
   in-parts c h = omega (arith, mul-le-mul (r .scale .1) h)
@@ -317,7 +319,7 @@ module _ {l : Numbers} (r : InRange l) where
   -- ---- the tables of pairs
 
   lanes-of : (k : ℕ) → k < length (l .firsts)
-      → (size (loadedBlock l) (first (loadedBlock l) k) ≡ lanesOf (l .sizes) (l .firsts) k) × (size (loadedBlock l) (second (loadedBlock l) k) ≡ lanesOf (l .sizes) (l .seconds) k)
+      → (size (loadedBlock l) (first (loadedBlock l) k) ≡ rowsOf (numbersShape l) k) × (size (loadedBlock l) (second (loadedBlock l) k) ≡ columnsOf (numbersShape l) k)
   lanes-of k h =
       let w = r .below k h in (
         ap (size (loadedBlock l)) (load-first r k h) ∙ load-size r (nth (l .firsts) k) (omega arith),
@@ -325,17 +327,17 @@ module _ {l : Numbers} (r : InRange l) where
       )
 
   entry-there : (o : ℕ) → entryUsed (loadedBlock l) o ≡ true
-      → (o / 64 < length (l .firsts)) × (o % 64 / 8 < lanesOf (l .sizes) (l .firsts) (o / 64)) × (o % 8 < lanesOf (l .sizes) (l .seconds) (o / 64))
+      → (o / entriesOfPair < length (l .firsts)) × (o % entriesOfPair / maxChoices < rowsOf (numbersShape l) (o / entriesOfPair)) × (o % maxChoices < columnsOf (numbersShape l) (o / entriesOfPair))
   unfolding entryUsed
   entry-there o t =
       let b = loadedBlock l in
-      let w = both-true (ltb (o / 64) (pairs b)) (ltb (o % 64 / 8) (size b (first b (o / 64))) && ltb (o % 8) (size b (second b (o / 64)))) t in
-      let u = both-true (ltb (o % 64 / 8) (size b (first b (o / 64)))) (ltb (o % 8) (size b (second b (o / 64)))) (w .1) in
-      let h : o / 64 < length (l .firsts) = omega (arith, ltb-true, load-pairs r) in
-      (h, omega (arith, ltb-true, lanes-of (o / 64) h), omega (arith, ltb-true, lanes-of (o / 64) h))
+      let w = both-true (ltb (o / entriesOfPair) (pairs b)) (ltb (o % entriesOfPair / maxChoices) (size b (first b (o / entriesOfPair))) && ltb (o % maxChoices) (size b (second b (o / entriesOfPair)))) t in
+      let u = both-true (ltb (o % entriesOfPair / maxChoices) (size b (first b (o / entriesOfPair)))) (ltb (o % maxChoices) (size b (second b (o / entriesOfPair)))) (w .1) in
+      let h : o / entriesOfPair < length (l .firsts) = omega (arith, ltb-true, load-pairs r) in
+      (h, omega (arith, ltb-true, lanes-of (o / entriesOfPair) h), omega (arith, ltb-true, lanes-of (o / entriesOfPair) h))
 
   entry-apart : (o : ℕ) → entryUsed (loadedBlock l) o ≡ false
-      → (k a c : ℕ) → k < length (l .firsts) → a < lanesOf (l .sizes) (l .firsts) k → c < lanesOf (l .sizes) (l .seconds) k → o ≢ entriesOfPair * k + (maxChoices * a + c)
+      → (k a c : ℕ) → k < length (l .firsts) → a < rowsOf (numbersShape l) k → c < columnsOf (numbersShape l) k → o ≢ entriesOfPair * k + (maxChoices * a + c)
   entry-apart o f k a c h p q e =
       let b = loadedBlock l in
       let t : entryUsed b (entriesOfPair * k + (maxChoices * a + c)) ≡ true =
@@ -345,11 +347,11 @@ module _ {l : Numbers} (r : InRange l) where
       omega arith
 
   entry-at : (o : ℕ) → entryUsed (loadedBlock l) o ≡ true
-      → Priced (l .scale) (loadedEntriesFrom + o) (heldEntriesFrom + o) (entryCost (l .sizes) (l .firsts) (l .seconds) (l .entries) (o / 64) (o % 64 / 8) (o % 8)) (loadedBlock l)
+      → Priced (l .scale) (loadedEntriesFrom + o) (heldEntriesFrom + o) (numbersCosts l .pair (o / entriesOfPair) (o % entriesOfPair / maxChoices) (o % maxChoices)) (loadedBlock l)
   entry-at o t =
       let w = entry-there o t in
-      let e : entriesOfPair * (o / 64) + (maxChoices * (o % 64 / 8) + o % 8) ≡ o = omega arith in
-      rw e at (at-entry r (o / 64) (o % 64 / 8) (o % 8) (w .0) (w .1) (w .2))
+      let e : entriesOfPair * (o / entriesOfPair) + (maxChoices * (o % entriesOfPair / maxChoices) + o % maxChoices) ≡ o = omega arith in
+      rw e at (at-entry r (o / entriesOfPair) (o % entriesOfPair / maxChoices) (o % maxChoices) (w .0) (w .1) (w .2))
 
   loaded-entries-right : (o : ℕ) → o < maxPairs * entriesOfPair → Right (loadedBlock l) (loadedEntriesFrom + o)
   loaded-entries-right o h =
@@ -400,7 +402,7 @@ module _ {l : Numbers} (r : InRange l) where
   -- ---- 'T becomes s × H'
 
   pub load-total : (x : ℕ → ℕ) → IsPlan (shapeOf (loadedBlock l)) x → heldTotal (loadedBlock l) x ≡ scale (loadedBlock l) * loadedTotal (loadedBlock l) x
-  unfolding total choiceTotal pairTotal shapeOf loadedCosts heldCosts IsPlan
+  unfolding total choiceTotal pairTotal loadedCosts heldCosts IsPlan
   load-total x p =
       let b = loadedBlock l in
       let f : ℕ → ℕ = λ i. loadedChoice b i (x i) in
@@ -430,6 +432,6 @@ module _ {l : Numbers} (r : InRange l) where
           let b = loadedBlock l in
           let q : k < length (l .firsts) = omega (arith, load-pairs r) in
           let w = r .below k q in
-          let t : x (first b k) < lanesOf (l .sizes) (l .firsts) k = omega (arith, p (first b k) (omega (arith, load-first r k q, load-trains r)), lanes-of k q) in
-          let u : x (second b k) < lanesOf (l .sizes) (l .seconds) k = omega (arith, p (second b k) (omega (arith, load-second r k q, load-trains r)), lanes-of k q) in
+          let t : x (first b k) < rowsOf (numbersShape l) k = omega (arith, p (first b k) (omega (arith, load-first r k q, load-trains r)), lanes-of k q) in
+          let u : x (second b k) < columnsOf (numbersShape l) k = omega (arith, p (second b k) (omega (arith, load-second r k q, load-trains r)), lanes-of k q) in
           rw (load-held-entry r k (x (first b k)) (x (second b k)) q t u, load-loaded-entry r k (x (first b k)) (x (second b k)) q t u, load-scale r)

@@ -1,13 +1,16 @@
 -- Document 01, '01 load': the whole new block. 'T becomes s × H, c0 becomes 0, and every unused place becomes 0.'
 use mathlib.Core.Path.{_≡_}
-use mathlib.Core.List.{List}
+use mathlib.Core.List.{List, []}
 use Prim.Native.Nat.{ℕ, _+_, _*_, _<_, _≤_}
 use lib.IntN.{ℤ, pos}
 use lib.ListN.{length, set}
+use Rattle.theory.specs.Fold.{iter}
+use Rattle.theory.specs.Lists.{nth}
 use Rattle.tables.specs.Block.{maxTrains, maxChoices, maxPairs, maxCost, trainsPlace, scalePlace, pairsPlace, sizePlace, firstPlace, secondPlace, loadedChoicePlace, heldChoicePlace, loadedEntryPlace, heldEntryPlace}
 use Rattle.tables.specs.WellFormed.{freshBlock}
-use Rattle.tables.specs.Numbers.{Numbers, nth, choiceStart, lanesOf, entryStart}
-use Rattle.operations.specs.Fold.{iter}
+use Rattle.tables.specs.Numbers.{Numbers, listShape, numbersShape}
+use Rattle.tables.specs.Plans.{Shape}
+use Rattle.tables.specs.Counts.{rowsOf, columnsOf, choicesBefore, entriesBefore}
 
 -- n, s and m
 abbrev pub headLoaded : ℕ → ℕ → ℕ → List ℤ → List ℤ
@@ -24,27 +27,30 @@ abbrev pub runLoaded : ℕ → List ℕ → ℕ → ℕ → ℕ → ℕ → List
 runLoaded s costs start loaded held count b = iter count (λ a d. set (set d (loaded + a) (pos (nth costs (start + a)))) (held + a) (pos (s * nth costs (start + a)))) b
 
 -- each train's costs
-abbrev pub choicesLoaded : ℕ → List ℕ → List ℕ → List ℤ → List ℤ
-choicesLoaded s sizes choices b = iter (length sizes) (λ i. runLoaded s choices (choiceStart sizes i) (loadedChoicePlace i 0) (heldChoicePlace i 0) (nth sizes i)) b
+abbrev pub choicesLoaded : ℕ → Shape → List ℕ → List ℤ → List ℤ
+choicesLoaded s t choices b = iter (t .trains) (λ i. runLoaded s choices (choicesBefore t i) (loadedChoicePlace i 0) (heldChoicePlace i 0) (t .size i)) b
 
 -- the rows of pair k, whose costs begin at `start`
 abbrev pub pairLoaded : ℕ → List ℕ → ℕ → ℕ → ℕ → ℕ → List ℤ → List ℤ
 pairLoaded s entries start rows columns k b = iter rows (λ a. runLoaded s entries (start + columns * a) (loadedEntryPlace k a 0) (heldEntryPlace k a 0) columns) b
 
 -- each pair's costs
-abbrev pub entriesLoaded : ℕ → List ℕ → List ℕ → List ℕ → List ℕ → List ℤ → List ℤ
-entriesLoaded s sizes firsts seconds entries b =
-    iter (length firsts) (λ k. pairLoaded s entries (entryStart sizes firsts seconds k) (lanesOf sizes firsts k) (lanesOf sizes seconds k) k) b
+abbrev pub entriesLoaded : ℕ → Shape → List ℕ → List ℤ → List ℤ
+entriesLoaded s t entries b = iter (t .pairs) (λ k. pairLoaded s entries (entriesBefore t k) (rowsOf t k) (columnsOf t k) k) b
 
 -- the block after the load, whatever stood there before
 unfoldable pub loadedBlock : Numbers → List ℤ
 loadedBlock l =
-    entriesLoaded (l .scale) (l .sizes) (l .firsts) (l .seconds) (l .entries)
-    (choicesLoaded (l .scale) (l .sizes) (l .choices)
+    entriesLoaded (l .scale) (numbersShape l) (l .entries)
+    (choicesLoaded (l .scale) (numbersShape l) (l .choices)
     (pairsLoaded (l .firsts) (l .seconds)
     (sizesLoaded (l .sizes) (headLoaded (length (l .sizes)) (l .scale) (length (l .firsts)) freshBlock))))
 
--- ---- what the private functions of load.rt ask: each a part of `InRange`
+-- ---- what the private functions of load.rt speak of, and what they ask: each a part of `InRange`
+
+-- the trains of these sizes, without pairs
+abbrev pub trainsShape : List ℕ → Shape
+trainsShape sizes = listShape sizes [] []
 
 pub record SizesIn (sizes : List ℕ) : Type 0 where
   pub few : length sizes ≤ maxTrains

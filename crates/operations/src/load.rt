@@ -6,8 +6,9 @@ ghost use lib.ListN.{length, replicate};
 ghost use Rattle.units.specs.Units.{Sound};
 ghost use Rattle.tables.specs.Block.{blockLength, maxTrains, maxChoices, maxPairs};
 ghost use Rattle.tables.specs.WellFormed.{freshBlock};
-ghost use Rattle.tables.specs.Numbers.{numbers, choiceStart, entryStart, InRange};
-ghost use Rattle.operations.specs.Load.{SizesIn, PairsIn, CostsIn, headLoaded, sizesLoaded, pairsLoaded, runLoaded, choicesLoaded, pairLoaded, entriesLoaded, loadedBlock};
+ghost use Rattle.tables.specs.Counts.{choiceCount, entryCount};
+ghost use Rattle.tables.specs.Numbers.{numbers, listShape, InRange};
+ghost use Rattle.operations.specs.Load.{SizesIn, PairsIn, CostsIn, headLoaded, sizesLoaded, pairsLoaded, runLoaded, choicesLoaded, pairLoaded, entriesLoaded, loadedBlock, trainsShape};
 use crate::held;
 use tables::block;
 use tables::block::Block;
@@ -90,8 +91,8 @@ fn load_run(
 // Stores each train's costs.
 fn load_choices(b: &mut [i64], scale: Scale, sizes: &[u64], choices: &[u64])
     requires { ⌜ (length (now b) ≡ blockLength) × (Sound scale) × (SizesIn (now sizes)) × (CostsIn (now choices)) ⌝ }
-    requires { ⌜ length (now choices) ≡ choiceStart (now sizes) (length (now sizes)) ⌝ }
-    ensures { λ _. ⌜ now (b .exit) ≡ choicesLoaded (scale .0) (now (sizes .entry)) (now (choices .entry)) (now (b .entry)) ⌝ }
+    requires { ⌜ length (now choices) ≡ choiceCount (trainsShape (now sizes)) ⌝ }
+    ensures { λ _. ⌜ now (b .exit) ≡ choicesLoaded (scale .0) (trainsShape (now (sizes .entry))) (now (choices .entry)) (now (b .entry)) ⌝ }
 {
     let mut start = 0;
     let mut i = 0;
@@ -146,8 +147,8 @@ fn load_entries(
     entries: &[u64],
 )
     requires { ⌜ (length (now b) ≡ blockLength) × (Sound scale) × (SizesIn (now sizes)) × (CostsIn (now entries)) ⌝ }
-    requires { ⌜ (PairsIn (length (now sizes)) (now firsts) (now seconds)) × (length (now entries) ≡ entryStart (now sizes) (now firsts) (now seconds) (length (now firsts))) ⌝ }
-    ensures { λ _. ⌜ now (b .exit) ≡ entriesLoaded (scale .0) (now (sizes .entry)) (now (firsts .entry)) (now (seconds .entry)) (now (entries .entry)) (now (b .entry)) ⌝ }
+    requires { ⌜ (PairsIn (length (now sizes)) (now firsts) (now seconds)) × (length (now entries) ≡ entryCount (listShape (now sizes) (now firsts) (now seconds))) ⌝ }
+    ensures { λ _. ⌜ now (b .exit) ≡ entriesLoaded (scale .0) (listShape (now (sizes .entry)) (now (firsts .entry)) (now (seconds .entry))) (now (entries .entry)) (now (b .entry)) ⌝ }
 {
     let mut start = 0;
     let mut k = 0;

@@ -1,26 +1,29 @@
 -- Document 01's own examples, computed: each row of 'What is declined' that the reader judges, the lines that only a later rule declines, and marked cases 11 and 12.
 use mathlib.Core.Bool.{Bool, true, false, cond, _&&_}
 use mathlib.Core.List.{List, [], _∷_, _++_}
-use Prim.Native.Char.{code}
 use Prim.Native.Nat.{ℕ}
-use Prim.Native.String.{String, [] as empty, _∷_ as char-then}
+use Prim.Native.String.{String}
 use lib.Dec.{T, eqb}
 use lib.IntN.{ℤ, pos}
-use lib.ListN.{set, replicate}
+use lib.ListN.{set}
+use Rattle.theory.specs.Sum.{sum}
+use Rattle.theory.specs.Range.{all, pass}
+use Rattle.refusals.specs.Refusals.{refusalNumber}
+use Rattle.refusals.specs.Verdicts.{firstOf}
 use Rattle.tables.specs.Block.{trainsPlace, scalePlace, pairsPlace, sizePlace, firstPlace, secondPlace, loadedChoicePlace, heldChoicePlace, loadedEntryPlace, heldEntryPlace, figure}
-use Rattle.tables.specs.Range.{all, pass}
-use Rattle.tables.specs.Sum.{sum}
-use Rattle.tables.specs.WellFormed.{within, choiceUsed, entryUsed, headLimits, shapeLimits, costLimits, limitsAt, placesRight, before, follows, pairRight, pairsRight, isZero, fresh, holdsStudy, wellFormed, freshBlock}
+use Rattle.tables.specs.WellFormed.{within, choiceUsed, entryUsed, headLimits, shapeLimits, costLimits, limitsAt, placesRight, before, follows, pairRight, pairsRight, isZero, holdsStudy, wellFormed, freshBlock, isFresh}
 use Rattle.frames.specs.Digits.{digit, byteAt}
 use Rattle.frames.specs.Fields.{field, signed}
 use Rattle.frames.specs.Frames.{allDigits, framed}
+use Rattle.frames.specs.Text.{codes, zeros}
 use Rattle.lines.specs.declared.request.Line.{Line}
 use Rattle.lines.specs.declared.request.Line.the-variants.{Asked, Refused}
 use Rattle.lines.specs.Kinds.{newKind}
 use Rattle.lines.specs.Layout.{pairAt}
-use Rattle.lines.specs.Verdicts.{firstOf, fieldVerdict, runsVerdict, pairOrdered, pairVerdict, headVerdict, restVerdict, loadVerdict}
-use Rattle.lines.specs.Refusals.{refusalNumber}
-use Rattle.reader.specs.Reading.{addVerdict, shiftVerdict, certifyVerdict, searchVerdict, studyLine, kindLine, lineOf}
+use Rattle.lines.specs.Verdicts.{fieldVerdict, runsVerdict, lastVerdict}
+use Rattle.kinds.specs.Load.{pairOrdered, pairVerdict, headVerdict, restVerdict, loadVerdict}
+use Rattle.kinds.specs.Lines.{addVerdict, shiftVerdict, certifyVerdict, searchVerdict}
+use Rattle.reader.specs.Reading.{studyLine, kindLine, lineOf}
 
 -- ---- the two blocks
 
@@ -44,17 +47,10 @@ j =
     (putChoice 0 0 2 (putEntry 0 0 0 1 (putEntry 0 1 0 3 (putEntry 0 1 1 2 freshBlock))))))))))
 
 pub blocks-well-formed : T (wellFormed freshBlock && wellFormed j)
-unfolding j put putChoice putEntry within choiceUsed entryUsed headLimits shapeLimits costLimits limitsAt placesRight before follows pairRight pairsRight isZero fresh holdsStudy wellFormed figure pass all
+unfolding j put putChoice putEntry within choiceUsed entryUsed headLimits shapeLimits costLimits limitsAt placesRight before follows pairRight pairsRight isZero isFresh holdsStudy wellFormed figure pass all
 blocks-well-formed = tt
 
 -- ---- the table
-
-pub codes : String → List ℕ
-codes empty = []
-codes (char-then c s) = code c ∷ codes s
-
-pub zeros : ℕ → List ℕ
-zeros n = replicate n 48
 
 -- a line, whether the block is that of J, and the refusal's number, 0 where the line is accepted
 pub record Case : Type 0 where
@@ -76,7 +72,7 @@ numberOf (Asked q) = 0
 numberOf (Refused r) = refusalNumber r
 
 pub holds : Case → Bool
-unfolding j put putChoice putEntry numberOf digit byteAt field signed allDigits framed pairAt firstOf fieldVerdict runsVerdict pairOrdered pairVerdict headVerdict restVerdict loadVerdict addVerdict shiftVerdict certifyVerdict searchVerdict newKind studyLine kindLine lineOf fresh isZero pass before figure sum
+unfolding j put putChoice putEntry numberOf digit byteAt field signed allDigits framed pairAt firstOf fieldVerdict lastVerdict runsVerdict pairOrdered pairVerdict headVerdict restVerdict loadVerdict addVerdict shiftVerdict certifyVerdict searchVerdict newKind studyLine kindLine lineOf isFresh isZero pass before figure sum
 holds c = eqb (numberOf (lineOf (c .line) (cond (c .loaded) j freshBlock))) (c .number)
 
 pub every : List Case → Bool

@@ -1,6 +1,4 @@
 -- The laws of the crate, which callers cite: one file for each idea.
-pub mod Held
-pub mod Accepted
 pub mod LineAccepted
 pub mod LineKind
 pub mod LineRefused

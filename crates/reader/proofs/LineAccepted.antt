@@ -2,17 +2,19 @@
 use mathlib.Core.Path.{_≡_, refl, sym, subst}
 use mathlib.Core.Bool.{Bool, true, false, cond, _&&_}
 use mathlib.Core.List.{List}
-use Prim.Native.Nat.{ℕ, _+_, _*_, _<_, _^_}
+use Prim.Native.Nat.{ℕ, _<_, _^_}
 use native.Mathlib.Omega.{arith}
 use lib.IntN.{ℤ}
+use Rattle.theory.proofs.Sum.{part-inside}
+use Rattle.refusals.specs.declared.Refusal.{Refusal}
+use Rattle.refusals.specs.declared.Verdict.{Verdict}
+use Rattle.refusals.specs.declared.Verdict.the-variants.{Fine, Declined}
 use Rattle.tables.specs.Block.{trains, size}
-use Rattle.tables.specs.WellFormed.{fresh, Study}
+use Rattle.tables.specs.WellFormed.{isFresh, Study}
 use Rattle.tables.proofs.Study.{trains-range, size-range}
-use Rattle.tables.proofs.Sum.{part-inside}
 use Rattle.frames.specs.declared.frame.NewFrame.{NewFrame}
 use Rattle.frames.specs.declared.frame.NewFrame.the-variants.{Within, Long, Broken}
 use Rattle.frames.specs.Digits.{bytes}
-use Rattle.frames.specs.Fields.{field}
 use Rattle.frames.specs.Frames.{newFrame, Framed}
 use Rattle.frames.proofs.Bytes.{Whole, framed-whole, new-framed}
 use Rattle.frames.proofs.Widths.{field-below}
@@ -20,16 +22,14 @@ use Rattle.lines.specs.declared.kind.Kind.{Kind}
 use Rattle.lines.specs.declared.kind.Kind.the-variants.{Load, Add, Shift, Tighten, Certify, Search}
 use Rattle.lines.specs.declared.kind.NewKind.{NewKind}
 use Rattle.lines.specs.declared.kind.NewKind.the-variants.{Known, NoSuch}
-use Rattle.lines.specs.declared.refusal.Refusal.{Refusal}
-use Rattle.lines.specs.declared.request.Verdict.{Verdict}
-use Rattle.lines.specs.declared.request.Verdict.the-variants.{Fine, Declined}
 use Rattle.lines.specs.declared.request.Request.{Request}
 use Rattle.lines.specs.declared.request.Line.{Line}
 use Rattle.lines.specs.declared.request.Line.the-variants.{Asked, Refused}
 use Rattle.lines.specs.Kinds.{newKind, needsStudy, requestKind}
-use Rattle.lines.specs.Layout.{kindOf, weightWidth, weightsAt, addTrain, addChoice}
-use Rattle.reader.specs.Reading.{concluded, kindVerdict, kindRequest, studyLine, newKindLine, kindLine, framedLine, lineOf}
-use Rattle.reader.proofs.Accepted.{FineAdd, FineCertify}
+use Rattle.lines.specs.Layout.{kindOf, numberIn, further, weightWidth, weightField, addTrain, addChoice}
+use Rattle.kinds.specs.Lines.{concluded, kindVerdict, kindRequest}
+use Rattle.kinds.proofs.Accepted.{FineAdd, FineCertify}
+use Rattle.reader.specs.Reading.{studyLine, newKindLine, kindLine, framedLine, lineOf}
 
 -- a line that concludes with a request made it
 concluded-asked : (v : Verdict) (r q : Request) → concluded v r ≡ Asked q → (v ≡ Fine) × (r ≡ q)
@@ -52,13 +52,13 @@ pub record Accepted (l : List ℕ) (b : List ℤ) (q : Request) : Type 0 where
   pub known : newKind (kindOf l) ≡ Known kind
   pub fine : kindVerdict kind l b ≡ Fine
   pub made : kindRequest kind l b ≡ q
-  pub loaded : needsStudy kind && fresh b ≡ false
+  pub loaded : needsStudy kind && isFresh b ≡ false
 
 module _ (l : List ℕ) (b : List ℤ) (q : Request) where
   study-accepted : Framed l (bytes l) → (k : Kind) → newKind (kindOf l) ≡ Known k → studyLine k l b ≡ Asked q → Accepted l b q
   unfolding studyLine
   study-accepted w k p e =
-      ways (Asked q) (needsStudy k && fresh b) _ _ e (λ f. absurd (refused-asked f))
+      ways (Asked q) (needsStudy k && isFresh b) _ _ e (λ f. absurd (refused-asked f))
       (λ h. λ f. let c = concluded-asked (kindVerdict k l b) (kindRequest k l b) q f in record { framed = w; kind = k; known = p; fine = c .0; made = c .1; loaded = h })
 
   kind-accepted : Framed l (bytes l) → kindLine l b ≡ Asked q → Accepted l b q
@@ -89,7 +89,7 @@ request-kind Search l b = refl
 
 -- a request that a line makes of a block, by the request's kind: its fields are the line's, they were judged fine, and a kind that needs a study found one
 abbrev pub Makes : List ℕ → List ℤ → Request → Type 0
-Makes l b q = (q ≡ kindRequest (requestKind q) l b) × (kindVerdict (requestKind q) l b ≡ Fine) × (needsStudy (requestKind q) && fresh b ≡ false)
+Makes l b q = (q ≡ kindRequest (requestKind q) l b) × (kindVerdict (requestKind q) l b ≡ Fine) × (needsStudy (requestKind q) && isFresh b ≡ false)
 
 module _ (l : List ℕ) (b : List ℤ) (q : Request) where
   -- an accepted line is a frame, of at most 19,834 characters, and makes its request
@@ -98,7 +98,7 @@ module _ (l : List ℕ) (b : List ℤ) (q : Request) where
       let a = line-accepted l b q e in (
         a .framed,
         subst (λ (r : Request). Makes l b r) (a .made)
-            (subst (λ (j : Kind). (kindRequest (a .kind) l b ≡ kindRequest j l b) × (kindVerdict j l b ≡ Fine) × (needsStudy j && fresh b ≡ false))
+            (subst (λ (j : Kind). (kindRequest (a .kind) l b ≡ kindRequest j l b) × (kindVerdict j l b ≡ Fine) × (needsStudy j && isFresh b ≡ false))
             (sym (request-kind (a .kind) l b)) (refl, a .fine, a .loaded)),
       )
 
@@ -115,5 +115,5 @@ add-there {l} {b} s f =
     (t, omega (arith, f .choice, size-range s (addTrain l) t))
 
 -- a weight is any number of 3 bytes
-pub weight-below : {l : List ℕ} {weights : ℕ} → Whole l → FineCertify l weights → (k : ℕ) → k < weights → field l (weightsAt + weightWidth * k) weightWidth < 2 ^ 24
-weight-below {l} {weights} w f k h = field-below w (weightsAt + weightWidth * k) weightWidth (omega (arith, part-inside weightWidth k weights h, f .ends))
+pub weight-below : {l : List ℕ} {weights : ℕ} → Whole l → FineCertify l weights → (k : ℕ) → k < weights → numberIn l (further weightField k) < 2 ^ 24
+weight-below {l} {weights} w f k h = field-below w (further weightField k .at) weightWidth (omega (arith, part-inside weightWidth k weights h, f .ends))

@@ -3,11 +3,19 @@
 use mathlib.Core.Path.{_≡_, refl, subst}
 use mathlib.Core.Bool.{Bool, true, false, cond, _&&_, _||_, not}
 use mathlib.Core.List.{List}
-use Prim.Native.Nat.{ℕ, zero, suc, _+_, _*_, _-_}
+use Prim.Native.Nat.{ℕ, zero, suc, _-_}
 use lib.Dec.{leb, eqb}
 use lib.IntN.{ℤ}
+use Rattle.refusals.specs.declared.Refusal.{Refusal}
+use Rattle.refusals.specs.declared.Refusal.the-variants.{Fields, Pair}
+use Rattle.refusals.specs.declared.Verdict.{Verdict}
+use Rattle.refusals.specs.declared.Verdict.the-variants.{Fine, Declined}
+use Rattle.refusals.specs.Refusals.{refusalNumber}
+use Rattle.refusals.specs.Verdicts.{then, firstOf, unless}
 use Rattle.tables.specs.Block.{trains, size}
-use Rattle.tables.specs.WellFormed.{fresh}
+use Rattle.tables.specs.WellFormed.{isFresh}
+use Rattle.tables.specs.Plans.{shapeOf}
+use Rattle.tables.specs.Counts.{moveCount, weightCount}
 use Rattle.frames.specs.declared.frame.NewFrame.{NewFrame}
 use Rattle.frames.specs.declared.frame.NewFrame.the-variants.{Within, Long, Broken}
 use Rattle.frames.specs.Frames.{newFrame}
@@ -16,19 +24,16 @@ use Rattle.lines.specs.declared.kind.Kind.{Kind}
 use Rattle.lines.specs.declared.kind.Kind.the-variants.{Load, Add, Shift, Tighten, Certify, Search}
 use Rattle.lines.specs.declared.kind.NewKind.{NewKind}
 use Rattle.lines.specs.declared.kind.NewKind.the-variants.{Known, NoSuch}
-use Rattle.lines.specs.declared.refusal.Refusal.{Refusal}
-use Rattle.lines.specs.declared.refusal.Refusal.the-variants.{Fields, Pair}
-use Rattle.lines.specs.declared.request.Field.{Field}
-use Rattle.lines.specs.declared.request.Verdict.{Verdict}
-use Rattle.lines.specs.declared.request.Verdict.the-variants.{Fine, Declined}
+use Rattle.lines.specs.declared.field.Field.{Field}
 use Rattle.lines.specs.declared.request.Request.{Request}
 use Rattle.lines.specs.declared.request.Line.{Line}
 use Rattle.lines.specs.declared.request.Line.the-variants.{Asked, Refused}
 use Rattle.lines.specs.Kinds.{newKind, needsStudy}
-use Rattle.lines.specs.Layout.{kindWidth, kindOf, numberIn, further, costField, trainsField, scaleField, sizeField, pairCountField, indexField, addTrainAt, addTrain, addChoiceAt, pointsField, liftField, moveField, fullWeightField, weightField, budgetField, loadTrains, loadPairs, choicesAt, choiceCount, entryCount, pairAt}
-use Rattle.lines.specs.Refusals.{refusalNumber}
-use Rattle.lines.specs.Verdicts.{then, firstOf, unless, obeys, fieldVerdict, runVerdict, endVerdict, runsVerdict, pairOrdered, pairVerdict, headVerdict, restVerdict, loadVerdict}
-use Rattle.reader.specs.Reading.{addVerdict, moveCount, weightCount, shiftVerdict, certifyVerdict, searchVerdict, concluded, kindVerdict, studyLine, newKindLine, kindLine, framedLine, lineOf}
+use Rattle.lines.specs.Layout.{kindWidth, kindOf, numberIn, further, trainsField, scaleField, sizeField, pairCountField, addTrain, pointsField, liftField, moveField, fullWeightField, weightField, budgetField, loadTrains, loadPairs, choiceCount, entryCount, pairAt, endOf, below, choiceField, entryField, addTrainField, addChoiceField}
+use Rattle.lines.specs.Verdicts.{obeys, fieldVerdict, runVerdict, endVerdict, runsVerdict, lastVerdict}
+use Rattle.kinds.specs.Load.{pairOrdered, pairVerdict, headVerdict, restVerdict, loadVerdict}
+use Rattle.kinds.specs.Lines.{addVerdict, shiftVerdict, certifyVerdict, searchVerdict, concluded, kindVerdict}
+use Rattle.reader.specs.Reading.{studyLine, newKindLine, kindLine, framedLine, lineOf}
 
 -- 'Order: 17, 16, .. Then fields .. Then 10, 12 or 14': the numbers that reading a line gives are the others
 abbrev pub ofReading : ℕ → Bool
@@ -66,13 +71,17 @@ reads-first (suc n) f h = reads-then (reads-first n f h) (h n)
 module _ (l : List ℕ) where
   reads-field : (f : Field) → Own (f .refusal) → Reads (fieldVerdict l f)
   unfolding fieldVerdict
-  reads-field f o = reads-then (reads-unless (leb (f .at + f .width) (bytes l)) Fields refl) (reads-unless (obeys (f .rule) (f .width) (numberIn l f)) (f .refusal) o)
+  reads-field f o = reads-then (reads-unless (leb (endOf f) (bytes l)) Fields refl) (reads-unless (obeys (f .rule) (f .width) (numberIn l f)) (f .refusal) o)
 
   reads-run : (f : Field) (count : ℕ) → Own (f .refusal) → Reads (runVerdict l f count)
   reads-run f count o = reads-first count (λ k. fieldVerdict l (further f k)) (λ k. reads-field (further f k) o)
 
   reads-end : (at : ℕ) → Reads (endVerdict (bytes l) at)
   reads-end at = reads-unless (eqb at (bytes l)) Fields refl
+
+  reads-last : (f : Field) → Own (f .refusal) → Reads (lastVerdict l f)
+  unfolding lastVerdict
+  reads-last f o = reads-then (reads-field f o) (reads-end (endOf f))
 
   reads-runs : (f : Field) (n : ℕ) (g : Field) (m : ℕ) → Own (f .refusal) → Own (g .refusal) → Reads (runsVerdict l f n g m)
   unfolding runsVerdict
@@ -83,23 +92,23 @@ module _ (l : List ℕ) where
   reads-pair : (k : ℕ) → Reads (pairVerdict l k)
   unfolding pairVerdict
   reads-pair k =
-      reads-then (reads-unless (leb (pairAt l k + 2) (bytes l)) Fields refl)
-      (reads-then (reads-unless (pairOrdered l k) Pair refl) (reads-run (costField (pairAt l k + 2)) (entryCount l (pairAt l k)) refl))
+      reads-then (reads-unless (leb (entryField (pairAt l k) .at) (bytes l)) Fields refl)
+      (reads-then (reads-unless (pairOrdered l k) Pair refl) (reads-run (entryField (pairAt l k)) (entryCount l (pairAt l k)) refl))
 
   reads-load : Reads (loadVerdict l)
   unfolding loadVerdict headVerdict restVerdict
   reads-load =
       reads-then (reads-then (reads-field trainsField refl) (reads-field scaleField refl))
       (reads-then (reads-run sizeField (loadTrains l) refl)
-      (reads-then (reads-run (costField (choicesAt l)) (choiceCount l) refl)
+      (reads-then (reads-run (choiceField l) (choiceCount l) refl)
       (reads-then (reads-field (pairCountField l) refl)
       (reads-then (reads-first (loadPairs l) (pairVerdict l) reads-pair) (reads-end (pairAt l (loadPairs l)))))))
 
   reads-add : (b : List ℤ) → Reads (addVerdict l b)
   unfolding addVerdict
   reads-add b =
-      reads-then (reads-field (indexField addTrainAt (trains b)) refl)
-      (reads-then (reads-field (indexField addChoiceAt (size b (addTrain l))) refl) (reads-then (reads-field pointsField refl) (reads-end 6)))
+      reads-then (reads-field (below addTrainField (trains b)) refl)
+      (reads-then (reads-field (below addChoiceField (size b (addTrain l))) refl) (reads-last pointsField refl))
 
   reads-shift : (n moves : ℕ) → Reads (shiftVerdict l n moves)
   unfolding shiftVerdict
@@ -111,7 +120,7 @@ module _ (l : List ℕ) where
 
   reads-search : Reads (searchVerdict l)
   unfolding searchVerdict
-  reads-search = reads-then (reads-field budgetField refl) (reads-end 5)
+  reads-search = reads-last budgetField refl
 
 -- ---- the line
 
@@ -132,14 +141,14 @@ module _ (l : List ℕ) (b : List ℤ) where
   reads-kind : (k : Kind) → Reads (kindVerdict k l b)
   reads-kind Load = reads-load l
   reads-kind Add = reads-add l b
-  reads-kind Shift = reads-shift l (trains b) (moveCount b)
+  reads-kind Shift = reads-shift l (trains b) (moveCount (shapeOf b))
   reads-kind Tighten = reads-end l kindWidth
-  reads-kind Certify = reads-certify l (weightCount b)
+  reads-kind Certify = reads-certify l (weightCount (shapeOf b))
   reads-kind Search = reads-search l
 
   own-study : (k : Kind) → OwnLine (studyLine k l b)
   unfolding studyLine
-  own-study k = own-cond (needsStudy k && fresh b) _ _ refl (own-concluded (kindVerdict k l b) _ (reads-kind k))
+  own-study k = own-cond (needsStudy k && isFresh b) _ _ refl (own-concluded (kindVerdict k l b) _ (reads-kind k))
 
   own-kind : OwnLine (kindLine l b)
   unfolding kindLine

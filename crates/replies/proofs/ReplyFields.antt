@@ -1,103 +1,105 @@
--- Each reply as its fields, one after the other, and how many characters it has.
+-- Laws of numbers in fields, one after the other: how long they are, one more of them, and that each reads back.
 use mathlib.Core.Path.{_≡_, refl, sym, ap, _∙_}
-use mathlib.Core.List.{List, [], _++_, append-assoc}
-use Prim.Native.Nat.{ℕ, zero, suc, _+_, _*_}
-use native.Mathlib.Nat.{zero-add, add-zero}
+use mathlib.Core.List.{List, [], _∷_, _++_}
+use Prim.Native.Nat.{ℕ, zero, suc, _+_, _*_, _<_, _≤_, _^_}
+use native.Mathlib.Nat.{add-zero, zero-add, add-assoc}
 use native.Mathlib.Numerals.{add-one}
 use native.Mathlib.Omega.{arith}
-use lib.IntN.{ℤ}
-use lib.ListN.{length}
-use Rattle.tables.specs.Block.{constant}
-use Rattle.certificates.specs.declared.certify.Ceiling.{Ceiling}
-use Rattle.frames.specs.Fields.{fieldDigits}
+use lib.ListN.{length, take}
+use Rattle.theory.specs.Lists.{nth}
+use Rattle.frames.specs.Fields.{fieldDigits, field}
 use Rattle.frames.proofs.RoundTrip.{digits-length}
-use Rattle.lines.specs.declared.refusal.Refusal.{Refusal}
-use Rattle.lines.specs.Refusals.{refusalNumber}
-use Rattle.search.specs.declared.answer.Found.{Found}
-use Rattle.replies.specs.Replies.{refusalByte, refusalReply, replyKind, figureWidth, boundOf, boundReply, flag, certifyReply, planDigits, shownCost, shownChoice, searchReply}
+use Rattle.frames.specs.Runs.{runDigits}
+use Rattle.frames.proofs.Stands.{Stands, stands-whole, stands-field, past-field, stands-run}
+use Rattle.replies.specs.Replies.{fieldsDigits, bytesIn}
+use Rattle.replies.specs.Shown.{shownIn, shownBehind}
+use Rattle.replies.specs.Wrote.{Wrote}
 use Rattle.replies.proofs.Writing.{digits-first}
 
-pub refusal-fields : (r : Refusal) → fieldDigits 1 refusalByte [] ++ fieldDigits 1 (refusalNumber r) [] ≡ refusalReply r
-unfolding refusalReply
-refusal-fields r = simp digits-first
+-- ---- how long they are
 
-pub bound-fields : (kind : ℕ) (b : List ℤ) → fieldDigits 1 (replyKind kind) [] ++ fieldDigits figureWidth (constant b) [] ++ fieldDigits figureWidth (boundOf b) [] ≡ boundReply kind b
-unfolding boundReply
-bound-fields kind b = simp digits-first
+pub fields-length : (ws vs rest : List ℕ) → length vs ≡ length ws → length (fieldsDigits ws vs rest) ≡ 2 * bytesIn ws + length rest
+unfolding fieldsDigits
+fields-length [] vs rest e = omega arith
+fields-length (w ∷ ws) [] rest e = absurd (omega arith)
+fields-length (w ∷ ws) (v ∷ vs) rest e = omega (arith, digits-length w v (fieldsDigits ws vs rest), fields-length ws vs rest (omega arith))
 
-pub certify-fields : (fullWeight : ℕ) (c : Ceiling)
-    → fieldDigits 1 (replyKind 5) [] ++ fieldDigits 1 (flag (c .reached)) [] ++ fieldDigits 8 (c .weighted) [] ++ fieldDigits 3 fullWeight [] ≡ certifyReply fullWeight c
-unfolding certifyReply
-certify-fields fullWeight c = simp digits-first
+-- where they end
+pub fields-end : (ws vs : List ℕ) {d b : List ℕ} {n : ℕ} → length vs ≡ length ws → Wrote d (fieldsDigits ws vs []) b n → n ≡ 2 * bytesIn ws
+fields-end ws vs e o = omega (arith, o .count, fields-length ws vs [] e)
 
--- ---- the plan
+-- ---- writing
 
-plan-from : (i n : ℕ) (x : ℕ → ℕ) → planDigits i n x ++ fieldDigits 1 (x (i + n)) [] ≡ planDigits i (suc n) x
-unfolding planDigits
-plan-from i zero x = rw add-zero
-plan-from i (suc n) x =
-    let e : i + suc n ≡ i + 1 + n = omega arith in
-    rw (e, digits-first 1 (x i) (planDigits (i + 1) n x) (fieldDigits 1 (x (i + 1 + n)) [])) (ap (fieldDigits 1 (x i)) (plan-from (i + 1) n x))
+-- before characters that stand before others
+pub fields-first : (ws vs p rest : List ℕ) → fieldsDigits ws vs p ++ rest ≡ fieldsDigits ws vs (p ++ rest)
+unfolding fieldsDigits
+fields-first [] vs p rest = refl
+fields-first (w ∷ ws) [] p rest = refl
+fields-first (w ∷ ws) (v ∷ vs) p rest = digits-first w v (fieldsDigits ws vs p) rest ∙ ap (fieldDigits w v) (fields-first ws vs p rest)
 
-pub plan-none : (x : ℕ → ℕ) → planDigits 0 0 x ≡ []
-unfolding planDigits
-plan-none x = refl
+-- none yet
+pub fields-none : [] ≡ fieldsDigits [] [] []
+unfolding fieldsDigits
+fields-none = refl
 
--- one more train
-pub plan-more : (p : List ℕ) (n : ℕ) (x : ℕ → ℕ) → p ++ planDigits 0 n x ++ fieldDigits 1 (x n) [] ≡ p ++ planDigits 0 (n + 1) x
-plan-more p n x =
-    append-assoc p (planDigits 0 n x) (fieldDigits 1 (x n) [])
-    ∙ ap (λ (k : ℕ). p ++ (planDigits 0 n x ++ fieldDigits 1 (x k) [])) (sym (zero-add n))
-    ∙ rw add-one (ap (λ (l : List ℕ). p ++ l) (plan-from 0 n x))
+-- one more field: a turn of a loop that writes them
+fields-next : (ws vs : List ℕ) (k : ℕ) (rest : List ℕ) → k < length ws → length vs ≡ length ws
+    → fieldsDigits (take k ws) (take k vs) (fieldDigits (nth ws k) (nth vs k) rest) ≡ fieldsDigits (take (suc k) ws) (take (suc k) vs) rest
+unfolding fieldsDigits
+fields-next [] vs k rest h e = absurd (omega arith)
+fields-next (w ∷ ws) [] k rest h e = absurd (omega arith)
+fields-next (w ∷ ws) (v ∷ vs) zero rest h e = refl
+fields-next (w ∷ ws) (v ∷ vs) (suc k) rest h e = ap (fieldDigits w v) (fields-next ws vs k rest (omega arith) (omega arith))
 
-plan-length : (i n : ℕ) (x : ℕ → ℕ) → length (planDigits i n x) ≡ 2 * n
-unfolding planDigits
-plan-length i zero x = refl
-plan-length i (suc n) x = omega (arith, digits-length 1 (x i) (planDigits (i + 1) n x), plan-length (i + 1) n x)
+pub fields-more : (ws vs : List ℕ) (k : ℕ) → k < length ws → length vs ≡ length ws
+    → fieldsDigits (take k ws) (take k vs) [] ++ fieldDigits (nth ws k) (nth vs k) [] ≡ fieldsDigits (take (k + 1) ws) (take (k + 1) vs) []
+fields-more ws vs k h e = rw add-one (fields-first (take k ws) (take k vs) [] (fieldDigits (nth ws k) (nth vs k) []) ∙ fields-next ws vs k [] h e)
 
-module _ (f : Found) where
-  -- four fields, and then the plan
-  pub search-fields : (n : ℕ) → fieldDigits 1 (replyKind 6) [] ++ fieldDigits 1 (flag (f .ended)) [] ++ fieldDigits 4 (f .count) [] ++ fieldDigits figureWidth (shownCost f) [] ++ planDigits 0 n (shownChoice f) ≡ searchReply n f
-  unfolding searchReply
-  search-fields n = simp digits-first
+-- the bytes of one more field
+pub bytes-more : (ws : List ℕ) (k : ℕ) → k < length ws → bytesIn (take (k + 1) ws) ≡ bytesIn (take k ws) + nth ws k
+bytes-more ws k h = rw add-one (go ws k h)
+  where
+    go : (ws : List ℕ) (k : ℕ) → k < length ws → bytesIn (take (suc k) ws) ≡ bytesIn (take k ws) + nth ws k
+    go [] k h = absurd (omega arith)
+    go (w ∷ ws) zero h = omega arith
+    go (w ∷ ws) (suc k) h = omega (arith, go ws k (omega arith))
 
--- ---- how long replies are
+-- a field is inside
+pub bytes-inside : (ws : List ℕ) (k : ℕ) → k < length ws → bytesIn (take k ws) + nth ws k ≤ bytesIn ws
+bytes-inside [] k h = absurd (omega arith)
+bytes-inside (w ∷ ws) zero h = omega arith
+bytes-inside (w ∷ ws) (suc k) h = omega (arith, bytes-inside ws k (omega arith))
 
--- a refusal has four characters
-pub refusal-length : (r : Refusal) → length (refusalReply r) ≡ 4
-unfolding refusalReply
-refusal-length r = omega (arith, digits-length 1 refusalByte (fieldDigits 1 (refusalNumber r) []), digits-length 1 (refusalNumber r) [])
+-- ---- reading back
 
-pub bound-length : (kind : ℕ) (b : List ℤ) → length (boundReply kind b) ≡ 26
-unfolding boundReply
-bound-length kind b =
-    omega (
-      arith,
-      digits-length 1 (replyKind kind) (fieldDigits figureWidth (constant b) (fieldDigits figureWidth (boundOf b) [])),
-      digits-length figureWidth (constant b) (fieldDigits figureWidth (boundOf b) []),
-      digits-length figureWidth (boundOf b) [],
-    )
+module _ {l : List ℕ} where
+  -- behind the fields stands the rest
+  past-fields : (at : ℕ) (ws vs rest : List ℕ) → length vs ≡ length ws → Stands l at (fieldsDigits ws vs rest) → Stands l (at + bytesIn ws) rest
+  unfolding fieldsDigits
+  past-fields at [] vs rest e s = rw add-zero s
+  past-fields at (w ∷ ws) [] rest e s = absurd (omega arith)
+  past-fields at (w ∷ ws) (v ∷ vs) rest e s = rw (← add-assoc at w (bytesIn ws)) (past-fields (at + w) ws vs rest (omega arith) (past-field w v (fieldsDigits ws vs rest) s))
 
-pub certify-length : (fullWeight : ℕ) (c : Ceiling) → length (certifyReply fullWeight c) ≡ 26
-unfolding certifyReply
-certify-length fullWeight c =
-    omega (
-      arith,
-      digits-length 1 (replyKind 5) (fieldDigits 1 (flag (c .reached)) (fieldDigits 8 (c .weighted) (fieldDigits 3 fullWeight []))),
-      digits-length 1 (flag (c .reached)) (fieldDigits 8 (c .weighted) (fieldDigits 3 fullWeight [])),
-      digits-length 8 (c .weighted) (fieldDigits 3 fullWeight []),
-      digits-length 3 fullWeight [],
-    )
+  -- field k
+  stands-fields : (at : ℕ) (ws vs rest : List ℕ) (k : ℕ) → length vs ≡ length ws → Stands l at (fieldsDigits ws vs rest) → k < length ws → nth vs k < 256 ^ nth ws k
+      → field l (at + bytesIn (take k ws)) (nth ws k) ≡ nth vs k
+  unfolding fieldsDigits
+  stands-fields at [] vs rest k e s h q = absurd (omega arith)
+  stands-fields at (w ∷ ws) [] rest k e s h q = absurd (omega arith)
+  stands-fields at (w ∷ ws) (v ∷ vs) rest zero e s h q = rw add-zero (stands-field w v (fieldsDigits ws vs rest) s q)
+  stands-fields at (w ∷ ws) (v ∷ vs) rest (suc k) e s h q =
+      rw (← add-assoc at w (bytesIn (take k ws))) (stands-fields (at + w) ws vs rest k (omega arith) (past-field w v (fieldsDigits ws vs rest) s) (omega arith) q)
 
-pub search-length : (n : ℕ) (f : Found) → length (searchReply n f) ≡ 24 + 2 * n
-unfolding searchReply
-search-length n f =
-    let plan = planDigits 0 n (shownChoice f) in
-    omega (
-      arith,
-      digits-length 1 (replyKind 6) (fieldDigits 1 (flag (f .ended)) (fieldDigits 4 (f .count) (fieldDigits figureWidth (shownCost f) plan))),
-      digits-length 1 (flag (f .ended)) (fieldDigits 4 (f .count) (fieldDigits figureWidth (shownCost f) plan)),
-      digits-length 4 (f .count) (fieldDigits figureWidth (shownCost f) plan),
-      digits-length figureWidth (shownCost f) plan,
-      plan-length 0 n (shownChoice f),
-    )
+module _ (ws vs rest : List ℕ) (e : length vs ≡ length ws) where
+  -- field k reads back
+  pub fields-shown : (k : ℕ) → k < length ws → nth vs k < 256 ^ nth ws k → shownIn ws k (fieldsDigits ws vs rest) ≡ nth vs k
+  fields-shown k h q =
+      ap (λ (at : ℕ). field (fieldsDigits ws vs rest) at (nth ws k)) (sym (zero-add (bytesIn (take k ws)))) ∙ stands-fields 0 ws vs rest k e (stands-whole (fieldsDigits ws vs rest)) h q
+
+-- and so does number i of a run behind
+pub run-shown : (ws vs : List ℕ) (w n : ℕ) (f : ℕ → ℕ) (rest : List ℕ) → length vs ≡ length ws → (i : ℕ) → i < n → f i < 256 ^ w
+    → shownBehind ws w i (fieldsDigits ws vs (runDigits w n f rest)) ≡ f i
+run-shown ws vs w n f rest e i h q =
+    let l = fieldsDigits ws vs (runDigits w n f rest) in
+    let s : Stands l (0 + bytesIn ws) (runDigits w n f rest) = past-fields 0 ws vs (runDigits w n f rest) e (stands-whole l) in
+    stands-run w n f rest (rw zero-add at s) i h q

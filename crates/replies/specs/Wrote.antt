@@ -1,16 +1,8 @@
--- What a function that writes a reply leaves in a lent buffer, and how large a buffer must be.
+-- What a function that writes a reply leaves in a lent buffer.
 use mathlib.Core.Path.{_≡_}
 use mathlib.Core.List.{List, _++_}
 use Prim.Native.Nat.{ℕ}
 use lib.ListN.{length, drop}
-
--- how many characters the longest of the fixed replies has: that of a search of `maxTrains` trains
-abbrev pub longestFixed : ℕ
-longestFixed = 72
-
--- 17: 'reply buffer below 72 bytes'
-abbrev pub minBuffer : ℕ
-minBuffer = 72
 
 -- 'the written front of the reply buffer; what lies behind it stays'
 abbrev pub written : List ℕ → List ℕ → List ℕ

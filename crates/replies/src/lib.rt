@@ -1,3 +1,3 @@
 // Document 01, 'Replies': the reply to a call, in digits, written to the front of a lent buffer.
 pub mod replies;
-mod write;
+pub mod write;

@@ -1,10 +1,12 @@
 // Document 01, 'Replies': 'digits as lines are, two characters a byte', written into a lent buffer.
 ghost use mathlib.Core.Path.{_≡_};
-ghost use mathlib.Core.List.{_++_};
+ghost use mathlib.Core.List.{[], _++_};
 ghost use Prim.Native.Nat.{_+_, _*_, _<_, _≤_};
 ghost use lib.ListN.{length, take, drop};
 ghost use Rattle.frames.specs.Digits.{byteDigits};
 ghost use Rattle.frames.specs.Fields.{fieldDigits};
+ghost use Rattle.replies.specs.Replies.{fieldsDigits, bytesIn};
+ghost use Rattle.replies.specs.Wrote.{Wrote};
 use frames::digits;
 
 // Writes a byte as two digits, from character `at` on.
@@ -29,4 +31,18 @@ pub fn put_field(reply: &mut [u8], at: usize, width: usize, v: u64) -> usize
         rest = rest / 256;
     }
     at + 2 * width
+}
+
+// Writes numbers as fields of these widths to the front of the buffer, one after the other.
+pub fn put_fields(reply: &mut [u8], widths: &[usize], numbers: &[u64]) -> usize
+    requires { ⌜ (2 * bytesIn (now widths) ≤ length (now reply)) × (length (now numbers) ≡ length (now widths)) ⌝ }
+    ensures { λ n. ⌜ Wrote (now (reply .entry)) (fieldsDigits (now (widths .entry)) (now (numbers .entry)) []) (now (reply .exit)) n ⌝ }
+{
+    let mut at = 0;
+    let mut i = 0;
+    while i < widths.len() {
+        at = put_field(reply, at, widths[i], numbers[i]);
+        i += 1;
+    }
+    at
 }

@@ -8,17 +8,17 @@ use native.Mathlib.Omega.{arith}
 use lib.IntN.{ℤ}
 use lib.ListN.{length}
 use borrow.Author.Tests.{le-ltb, lt-ltb}
+use Rattle.refusals.specs.declared.Refusal.{Refusal}
 use Rattle.tables.specs.WellFormed.{wellFormed}
 use Rattle.frames.specs.Frames.{maxCharacters}
-use Rattle.lines.specs.declared.refusal.Refusal.{Refusal}
 use Rattle.lines.specs.declared.request.Request.{Request}
 use Rattle.lines.specs.declared.request.Line.{Line}
 use Rattle.lines.specs.declared.request.Line.the-variants.{Asked, Refused}
 use Rattle.reader.specs.Reading.{lineOf}
-use Rattle.replies.specs.Wrote.{longestFixed}
-use Rattle.replies.proofs.ReplyFields.{refusal-length}
-use Rattle.requests.specs.Answer.{Answer, declined, requested, carriedOut, fitted, lineAnswer}
-use Rattle.requests.specs.Wrote.{Answers, Asks}
+use Rattle.replies.specs.Replies.{longestFixed}
+use Rattle.replies.proofs.Lengths.{refusal-length}
+use Rattle.requests.specs.Answer.{Answer, declined, requested, fitted, lineAnswer}
+use Rattle.requests.specs.Wrote.{Asks}
 use Rattle.requests.proofs.Lengths.{requested-short}
 
 -- a reply that fits is given

@@ -4,7 +4,6 @@ use mathlib.Core.Bool.{true, _||_}
 use mathlib.Core.List.{List}
 use mathlib.Core.Logic.{dite}
 use Prim.Native.Nat.{ℕ, zero, suc, _+_, _*_, _-_, _/_, _<_, _≤_}
-use native.Mathlib.Nat.{one-mul}
 use native.Mathlib.Decide.{decLt}
 use native.Mathlib.Numerals.{add-one}
 use native.Mathlib.Omega.{arith}
@@ -14,24 +13,27 @@ use lib.IntN.{ℤ, pos, negsuc, natAbs}
 use lib.ListN.{length, take, replicate, length-replicate}
 use lib.Seq.{length-take-le}
 use lib.Signed.{mag}
+use Rattle.theory.specs.Lists.{listOf}
+use Rattle.theory.proofs.Range.{both-true}
+use Rattle.theory.proofs.Lists.{list-length, list-nth, list-past}
 use Rattle.units.specs.Units.{thePoints, theScale}
+use Rattle.refusals.specs.declared.Verdict.the-variants.{Fine}
 use Rattle.tables.specs.Block.{blockLength, maxTrains, maxChoices, maxPairs, entriesOfPair, trains}
 use Rattle.tables.specs.Numbers.{Numbers, InRange, numbers}
-use Rattle.tables.specs.Ranges.{maxMove, maxFullWeight, maxBudget}
-use Rattle.tables.specs.WellFormed.{fresh, holdsStudy, wellFormed, Study}
-use Rattle.tables.proofs.Range.{both-true}
+use Rattle.tables.specs.LineLimits.{maxMove, maxFullWeight, maxBudget}
+use Rattle.tables.specs.WellFormed.{holdsStudy, wellFormed, Study, isFresh}
+use Rattle.tables.specs.Plans.{shapeOf}
+use Rattle.tables.specs.Counts.{moveCount, weightCount}
+use Rattle.tables.proofs.Counting.{move-count-most, weight-count-most}
 use Rattle.tables.proofs.Study.{study-of, trains-range}
 use Rattle.operations.specs.Load.{loadedBlock}
 use Rattle.operations.proofs.Loaded.{load-study}
 use Rattle.shift.specs.Shift.{SmallMoves}
 use Rattle.certificates.specs.Certify.{WeightsFor}
 use Rattle.frames.specs.Digits.{bytes}
-use Rattle.frames.specs.Fields.{field, signedField}
 use Rattle.frames.specs.Frames.{maxCharacters, framed, Framed}
-use Rattle.frames.specs.Runs.{listOf, runOf, signedRunOf}
-use Rattle.frames.proofs.Lists.{list-length, list-nth, list-past}
+use Rattle.frames.specs.Runs.{runOf, signedRunOf}
 use Rattle.frames.proofs.Widths.{signed-low}
-use Rattle.lines.specs.declared.refusal.Refusal.the-variants.{Range}
 use Rattle.lines.specs.declared.request.Load.{Load}
 use Rattle.lines.specs.declared.request.Add.{Add}
 use Rattle.lines.specs.declared.request.Shift.{Shift}
@@ -39,18 +41,16 @@ use Rattle.lines.specs.declared.request.Certify.{Certify}
 use Rattle.lines.specs.declared.request.Search.{Search}
 use Rattle.lines.specs.declared.request.Request.{Request}
 use Rattle.lines.specs.declared.request.Request.the-variants.{Load as load-of, Add as add-of, Shift as shift-of, Tighten as tighten-of, Certify as certify-of, Search as search-of}
-use Rattle.lines.specs.declared.request.Verdict.the-variants.{Fine}
-use Rattle.lines.specs.Layout.{costWidth, moveWidth, weightWidth, loadTrains, loadScale, loadSize, sizesAt, choicesAt, choiceCount, pairCountAt, loadPairs, loadFirst, loadSecond, pairAt, addTrain, addChoice, addPoints, liftsAt, movesAt, certifyFullWeight, weightsAt, searchBudget}
-use Rattle.lines.specs.Numbers.{entriesOf, numbersOf}
-use Rattle.lines.specs.Verdicts.{run, loadVerdict}
-use Rattle.lines.proofs.LoadAccepted.{FineLoad, load-fine, load-sized, load-pair}
+use Rattle.lines.specs.Layout.{costWidth, moveWidth, weightWidth, loadTrains, loadScale, choiceCount, loadPairs, loadFirst, loadSecond, pairAt, addTrain, addChoice, addPoints, certifyFullWeight, searchBudget, numberIn, endOf, further, countWidth, pairWidth, sizeField, choiceField, pairCountField, liftField, moveField, shiftLift, shiftMove, weightField}
+use Rattle.lines.specs.Verdicts.{fieldRun}
 use Rattle.lines.proofs.Judged.{field-within}
-use Rattle.lines.proofs.LoadFields.{head-fine, choice-count-most, entry-count-most, pair-next, pair-start, pair-ordered}
-use Rattle.lines.proofs.LoadRange.{load-in-range}
-use Rattle.lines.proofs.Entries.{entries-none, entries-length}
-use Rattle.reader.specs.Reading.{moveCount, weightCount}
-use Rattle.reader.proofs.Accepted.{add-fine, shift-fine, certify-fine, search-fine}
-use Rattle.reader.proofs.Held.{held-choices-most, move-count-most, held-entries-most}
+use Rattle.kinds.specs.Load.{loadVerdict}
+use Rattle.kinds.proofs.LoadAccepted.{FineLoad, load-fine, load-sized, load-pair}
+use Rattle.kinds.proofs.LoadFields.{head-fine, choice-count-most, entry-count-most, pair-next, pair-start, pair-ordered}
+use Rattle.kinds.proofs.Accepted.{add-fine, shift-fine, certify-fine, search-fine}
+use Rattle.decoding.specs.Numbers.{entriesOf, numbersOf}
+use Rattle.decoding.proofs.LoadRange.{load-in-range}
+use Rattle.decoding.proofs.Entries.{entries-none, entries-length}
 use Rattle.reader.proofs.LineAccepted.{Makes, line-makes, frame-length, add-there, weight-below}
 use Rattle.requests.specs.Wrote.{Asks, Adds}
 
@@ -95,22 +95,22 @@ pub record CertifyReady (l : List ℕ) (b : List ℤ) (q : Certify) : Type 0 whe
 pub certify-ready : {l : List ℕ} {b : List ℤ} {q : Certify} {room : ℕ} → Asks l b (certify-of q) room → CertifyReady l b q
 certify-ready {l} {b} {q} a =
     let m = makes a in
-    let e : q ≡ record { full = certifyFullWeight l; weights = run weightsAt (weightCount b) } = cc in
+    let e : q ≡ record { full = certifyFullWeight l; weights = fieldRun (weightField .at) (weightCount (shapeOf b)) } = cc in
     let s = study-of b (a .right) (m .2) in
-    let f = certify-fine l (weightCount b) (m .1) in
-    let g : ℕ → ℕ = λ k. field l (weightsAt + weightWidth * k) weightWidth in
+    let f = certify-fine l (weightCount (shapeOf b)) (m .1) in
+    let g : ℕ → ℕ = λ k. numberIn l (further weightField k) in
     rw e
     (record {
       study = s;
       fullWeight = f .fullWeight .1;
-      count = omega (arith, held-choices-most s, held-entries-most s);
+      count = weight-count-most s;
       inside = omega (arith, f .ends, even a);
       weights =
           record {
-            count = list-length g (weightCount b);
+            count = list-length g (weightCount (shapeOf b));
             small = λ p h.
-                let k : p < weightCount b = omega (arith, list-length g (weightCount b)) in
-                rw (list-nth g 0 (weightCount b) p k) (weight-below (frame-length (frame a)) f p k);
+                let k : p < weightCount (shapeOf b) = omega (arith, list-length g (weightCount (shapeOf b))) in
+                rw (list-nth g 0 (weightCount (shapeOf b)) p k) (weight-below (frame-length (frame a)) f p k);
           };
     })
 
@@ -120,7 +120,7 @@ pub record ShiftReady (l : List ℕ) (b : List ℤ) (q : Shift) : Type 0 where
   pub study : Study b
   pub digits : framed l ≡ true
   pub lift-count : (q .lifts .count ≡ trains b) × (q .lifts .count ≤ maxTrains)
-  pub move-count : (q .moves .count ≡ moveCount b) × (q .moves .count ≤ maxPairs * (2 * maxChoices))
+  pub move-count : (q .moves .count ≡ moveCount (shapeOf b)) × (q .moves .count ≤ maxPairs * (2 * maxChoices))
   pub lifts-inside : 2 * (q .lifts .at + moveWidth * q .lifts .count) ≤ length l
   pub moves-inside : 2 * (q .moves .at + moveWidth * q .moves .count) ≤ length l
   pub lifts : SmallMoves (signedRunOf l (q .lifts .at) moveWidth (q .lifts .count))
@@ -142,9 +142,9 @@ mag-most (negsuc n) = omega arith
 pub shift-ready : {l : List ℕ} {b : List ℤ} {q : Shift} {room : ℕ} → Asks l b (shift-of q) room → ShiftReady l b q
 shift-ready {l} {b} {q} a =
     let m = makes a in
-    let e : q ≡ record { lifts = run liftsAt (trains b); moves = run (movesAt (trains b)) (moveCount b) } = cc in
+    let e : q ≡ record { lifts = fieldRun (liftField .at) (trains b); moves = fieldRun (moveField (trains b) .at) (moveCount (shapeOf b)) } = cc in
     let s = study-of b (a .right) (m .2) in
-    let f = shift-fine l (trains b) (moveCount b) (m .1) in
+    let f = shift-fine l (trains b) (moveCount (shapeOf b)) (m .1) in
     rw e
     (record {
       study = s;
@@ -153,16 +153,14 @@ shift-ready {l} {b} {q} a =
       move-count = (refl, move-count-most s);
       lifts-inside = omega (arith, f .ends, even a);
       moves-inside = omega (arith, f .ends, even a);
-      lifts = small-list (λ k. signedField l (liftsAt + moveWidth * k) moveWidth) (trains b)
-          (λ k h. let low = f .lift k h in rw (signed-low moveWidth (field l (liftsAt + moveWidth * k) moveWidth) (omega arith)) low);
-      moves = small-list (λ k. signedField l (movesAt (trains b) + moveWidth * k) moveWidth) (moveCount b)
-          (λ k h. let z = signedField l (movesAt (trains b) + moveWidth * k) moveWidth in omega (arith, mag-most z, f .move k h));
+      lifts = small-list (shiftLift l) (trains b) (λ k h. let low = f .lift k h in rw (signed-low moveWidth (numberIn l (further liftField k)) (omega arith)) low);
+      moves = small-list (shiftMove l (trains b)) (moveCount (shapeOf b)) (λ k h. omega (arith, mag-most (shiftMove l (trains b) k), f .move k h));
     })
 
 -- ---- 01 load
 
 -- where the pairs' costs end
-pair-place : (l : List ℕ) (k : ℕ) → pairAt l k ≡ pairAt l 0 + 2 * k + costWidth * length (entriesOf l k)
+pair-place : (l : List ℕ) (k : ℕ) → pairAt l k ≡ pairAt l 0 + pairWidth * k + costWidth * length (entriesOf l k)
 pair-place l zero = rw (entries-none l) (omega arith)
 pair-place l (suc k) = rw (← add-one k) (omega (arith, pair-place l k, pair-next l k, entries-length l k))
 
@@ -174,24 +172,24 @@ entries-most l f (suc k) h =
     (omega (arith, entries-length l k, entries-most l f k (omega arith), entry-count-most (load-sized f) (loadFirst l k) (loadSecond l k) (omega (arith, o .first-below, o .second-below)) (o .second-below)))
 
 -- how many costs the pairs have: the bytes behind the number of pairs, less two for each pair, by three
-pub entry-total : (l : List ℕ) → loadVerdict l ≡ Fine → (bytes l - pairAt l 0 - 2 * loadPairs l) / costWidth ≡ length (entriesOf l (loadPairs l))
+pub entry-total : (l : List ℕ) → loadVerdict l ≡ Fine → (bytes l - pairAt l 0 - pairWidth * loadPairs l) / costWidth ≡ length (entriesOf l (loadPairs l))
 entry-total l e = omega (arith, load-fine l e .ends, pair-place l (loadPairs l))
 
 -- the pairs' trains are inside the line
-pub load-room : (l : List ℕ) → loadVerdict l ≡ Fine → (pairAt l 0 + 2 * loadPairs l ≤ bytes l) × (loadPairs l ≤ maxPairs)
+pub load-room : (l : List ℕ) → loadVerdict l ≡ Fine → (pairAt l 0 + pairWidth * loadPairs l ≤ bytes l) × (loadPairs l ≤ maxPairs)
 load-room l e =
     let f = load-fine l e in
-    (omega (arith, f .ends, pair-place l (loadPairs l)), field-within l (pairCountAt l) 1 0 maxPairs Range (f .count) .1 .1)
+    (omega (arith, f .ends, pair-place l (loadPairs l)), field-within l (pairCountField l) refl (f .count) .1 .1)
 
 pub record LoadReady (l : List ℕ) (q : Load) : Type 0 where
   pub fine : loadVerdict l ≡ Fine
   pub digits : framed l ≡ true
   pub short : length l ≤ maxCharacters
   pub scale : q .scale .0 ≡ loadScale l
-  pub sizes-inside : 2 * (q .sizes .at + 1 * q .sizes .count) ≤ length l
+  pub sizes-inside : 2 * (q .sizes .at + countWidth * q .sizes .count) ≤ length l
   pub choices-inside : 2 * (q .choices .at + costWidth * q .choices .count) ≤ length l
-  pub trains : (q .sizes .at ≡ sizesAt) × (q .sizes .count ≡ loadTrains l) × (loadTrains l ≤ maxTrains)
-  pub choices : (q .choices .at ≡ choicesAt l) × (q .choices .count ≡ choiceCount l) × (choiceCount l ≤ maxTrains * maxChoices)
+  pub trains : (q .sizes .at ≡ sizeField .at) × (q .sizes .count ≡ loadTrains l) × (loadTrains l ≤ maxTrains)
+  pub choices : (q .choices .at ≡ choiceField l .at) × (q .choices .count ≡ choiceCount l) × (choiceCount l ≤ maxTrains * maxChoices)
   pub pairs : (q .pairs .at ≡ pairAt l 0) × (q .pairs .count ≡ loadPairs l) × (loadPairs l ≤ maxPairs)
   pub entries : length (entriesOf l (loadPairs l)) ≤ maxPairs * entriesOfPair
   pub range : InRange (numbersOf l)
@@ -199,7 +197,7 @@ pub record LoadReady (l : List ℕ) (q : Load) : Type 0 where
 pub load-ready : {l : List ℕ} {b : List ℤ} {q : Load} {room : ℕ} → Asks l b (load-of q) room → LoadReady l q
 load-ready {l} {b} {q} a =
     let m = makes a in
-    let e : q ≡ record { scale = theScale (loadScale l); sizes = run sizesAt (loadTrains l); choices = run (choicesAt l) (choiceCount l); pairs = run (pairCountAt l + 1) (loadPairs l) } = cc in
+    let e : q ≡ record { scale = theScale (loadScale l); sizes = fieldRun (sizeField .at) (loadTrains l); choices = fieldRun (choiceField l .at) (choiceCount l); pairs = fieldRun (endOf (pairCountField l)) (loadPairs l) } = cc in
     let f = load-fine l (m .1) in
     let h = head-fine l (f .head) in
     let w = load-room l (m .1) in
@@ -218,18 +216,14 @@ load-ready {l} {b} {q} a =
       range = load-in-range l (m .1);
     })
 
--- the sizes of a load are a run of fields of one byte
-pub sizes-run : (l : List ℕ) → runOf l sizesAt 1 (loadTrains l) ≡ listOf (loadTrains l) (loadSize l)
-sizes-run l = simp one-mul
-
 -- the lists that were decoded are the numbers of the load
 pub load-numbers : {l : List ℕ} {q : Load} → LoadReady l q → {s n m : ℕ} {sizes choices firsts seconds entries : List ℕ} → s ≡ q .scale .0 → n ≡ q .sizes .count → m ≡ q .choices .count
-    → sizes ≡ runOf l (q .sizes .at) 1 n → choices ≡ runOf l (q .choices .at) costWidth m
+    → sizes ≡ runOf l (q .sizes .at) countWidth n → choices ≡ runOf l (q .choices .at) costWidth m
     → firsts ≡ listOf (loadPairs l) (loadFirst l) → seconds ≡ listOf (loadPairs l) (loadSecond l) → entries ≡ entriesOf l (loadPairs l)
     → numbers s sizes choices firsts seconds entries ≡ numbersOf l
 unfolding numbersOf
 load-numbers {l} {q} r es en em sizes choices firsts seconds entries =
-    rw (sizes, choices, firsts, seconds, entries, es, en, em, r .scale, r .trains .0, r .trains .1, r .choices .0, r .choices .1, sizes-run l)
+    rw (sizes, choices, firsts, seconds, entries, es, en, em, r .scale, r .trains .0, r .trains .1, r .choices .0, r .choices .1)
 
 -- what they make is a study
 pub loaded-study : {l : List ℕ} {q : Load} → LoadReady l q → {x : Numbers} → x ≡ numbersOf l → {b : List ℤ} → b ≡ loadedBlock x → Study b
@@ -238,7 +232,7 @@ loaded-study r e f = rw (f, e) (load-study (r .range))
 -- a well-formed block has its length
 pub right-length : (b : List ℤ) → wellFormed b ≡ true → length b ≡ blockLength
 unfolding wellFormed
-right-length b e = eqb-true (length b) blockLength (both-true (eqb (length b) blockLength) (fresh b || holdsStudy b) e .0)
+right-length b e = eqb-true (length b) blockLength (both-true (eqb (length b) blockLength) (isFresh b || holdsStudy b) e .0)
 
 -- ---- a front of a local array
 

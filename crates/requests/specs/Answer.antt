@@ -5,25 +5,27 @@ use Prim.Native.Nat.{ℕ}
 use lib.Dec.{ltb}
 use lib.IntN.{ℤ}
 use lib.ListN.{length}
+use Rattle.refusals.specs.declared.Refusal.{Refusal}
+use Rattle.refusals.specs.declared.Refusal.the-variants.{Sums}
+use Rattle.refusals.specs.declared.Verdict.{Verdict}
+use Rattle.refusals.specs.declared.Verdict.the-variants.{Fine, Declined}
 use Rattle.tables.specs.Block.{trains}
-use Rattle.operations.specs.declared.outcome.Outcome.{Outcome}
-use Rattle.operations.specs.declared.outcome.Outcome.the-variants.{Done, CostAbove as cost-above, PartsOutside as parts-outside}
-use Rattle.operations.specs.Add.{addOutcome, addBlock}
+use Rattle.operations.specs.Add.{added, addOutcome}
 use Rattle.operations.specs.Load.{loadedBlock}
-use Rattle.shift.specs.Shift.{shiftOutcome, shiftBlock}
-use Rattle.tighten.specs.Tighten.{tightenOutcome, tightenBlock}
+use Rattle.shift.specs.Shift.{shifted, shiftOutcome}
+use Rattle.tighten.specs.Tighten.{tightened, tightenOutcome}
 use Rattle.certificates.specs.declared.certify.Certificate.{Certificate}
 use Rattle.certificates.specs.declared.certify.Certificate.the-variants.{Unbalanced, Balanced}
 use Rattle.certificates.specs.Certify.{weightsOf, certificate}
 use Rattle.frames.specs.Runs.{runOf, signedRunOf}
-use Rattle.lines.specs.declared.refusal.Refusal.{Refusal}
-use Rattle.lines.specs.declared.refusal.Refusal.the-variants.{CostAbove, PartsOutside, Sums}
+use Rattle.lines.specs.declared.kind.Kind.{Kind}
+use Rattle.lines.specs.declared.kind.Kind.the-variants as kind
 use Rattle.lines.specs.declared.request.Request.{Request}
 use Rattle.lines.specs.declared.request.Request.the-variants.{Load, Add, Shift, Tighten, Certify, Search}
 use Rattle.lines.specs.declared.request.Line.{Line}
 use Rattle.lines.specs.declared.request.Line.the-variants.{Asked, Refused}
 use Rattle.lines.specs.Layout.{moveWidth, weightWidth}
-use Rattle.lines.specs.Numbers.{numbersOf}
+use Rattle.decoding.specs.Numbers.{numbersOf}
 use Rattle.reader.specs.Reading.{lineOf}
 use Rattle.search.specs.Answer.{searchAnswer}
 use Rattle.replies.specs.Replies.{refusalReply, boundReply, certifyReply, searchReply}
@@ -40,11 +42,10 @@ answered b reply = record { block = b; reply = reply }
 abbrev pub declined : List ℤ → Refusal → Answer
 declined b r = answered b (refusalReply r)
 
--- an operation that is done answers with the new constant and bound; 10 and 12 leave the block
-abbrev pub operated : ℕ → Outcome → List ℤ → List ℤ → Answer
-operated kind Done old new = answered new (boundReply kind new)
-operated kind cost-above old new = declined old CostAbove
-operated kind parts-outside old new = declined old PartsOutside
+-- an operation that ends at `new` and is done answers with the new constant and bound; a declined one, 10 or 12, leaves the block
+abbrev pub operated : Kind → Verdict → List ℤ → List ℤ → Answer
+operated kind Fine old new = answered new (boundReply kind new)
+operated kind (Declined r) old new = declined old r
 
 -- 'Certify and search change nothing in the block'; 14 where the sums disagree
 abbrev pub certified : ℕ → Certificate → List ℤ → Answer
@@ -53,13 +54,13 @@ certified fullWeight (Balanced c) b = answered b (certifyReply fullWeight c)
 
 -- what each request does, with the long fields read from the line
 unfoldable pub requested : Request → List ℕ → List ℤ → Answer
-requested (Load q) l b = answered (loadedBlock (numbersOf l)) (boundReply 1 (loadedBlock (numbersOf l)))
-requested (Add q) l b = operated 2 (addOutcome (q .train) (q .choice) (q .points .0) b) b (addBlock (q .train) (q .choice) (q .points .0) b)
+requested (Load q) l b = answered (loadedBlock (numbersOf l)) (boundReply kind.Load (loadedBlock (numbersOf l)))
+requested (Add q) l b = operated kind.Add (addOutcome (q .train) (q .choice) (q .points .0) b) b (added (q .train) (q .choice) (q .points .0) b)
 requested (Shift q) l b =
     let lifts = signedRunOf l (q .lifts .at) moveWidth (q .lifts .count) in
     let moves = signedRunOf l (q .moves .at) moveWidth (q .moves .count) in
-    operated 3 (shiftOutcome lifts moves b) b (shiftBlock lifts moves b)
-requested Tighten l b = operated 4 (tightenOutcome b) b (tightenBlock b)
+    operated kind.Shift (shiftOutcome lifts moves b) b (shifted lifts moves b)
+requested Tighten l b = operated kind.Tighten (tightenOutcome b) b (tightened b)
 requested (Certify q) l b = certified (q .full) (certificate b (weightsOf b (q .full) (runOf l (q .weights .at) weightWidth (q .weights .count)))) b
 requested (Search q) l b = answered b (searchReply (trains b) (searchAnswer b (q .budget)))
 

@@ -10,7 +10,8 @@ use Rattle.lines.specs.declared.request.Add.{Add}
 use Rattle.lines.specs.declared.request.Request.{Request}
 use Rattle.lines.specs.declared.request.Line.the-variants.{Asked}
 use Rattle.reader.specs.Reading.{lineOf}
-use Rattle.replies.specs.Wrote.{longestFixed, Wrote}
+use Rattle.replies.specs.Replies.{longestFixed}
+use Rattle.replies.specs.Wrote.{Wrote}
 use Rattle.requests.specs.Answer.{Answer}
 
 -- the reply of an answer stands in front of a buffer, n is how many characters it has, and the block is the one that the answer leaves

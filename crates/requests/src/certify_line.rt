@@ -9,8 +9,8 @@ use crate::load_line;
 use certificates::certify;
 use certificates::certify::Certificate;
 use frames::runs;
-use lines::refusal::Refusal;
 use lines::request::Certify;
+use refusals::Refusal;
 use replies::replies::write_certify;
 use replies::replies::write_refusal;
 

@@ -3,8 +3,8 @@ ghost use mathlib.Core.Path.{_≡_};
 ghost use mathlib.Core.Bool.{true};
 ghost use Prim.Native.Nat.{_≤_};
 ghost use lib.ListN.{length};
-ghost use Rattle.tables.specs.WellFormed.{fresh, wellFormed};
-ghost use Rattle.replies.specs.Wrote.{longestFixed};
+ghost use Rattle.tables.specs.WellFormed.{isFresh, wellFormed};
+ghost use Rattle.replies.specs.Replies.{longestFixed};
 ghost use Rattle.requests.specs.Answer.{requested, lineAnswer};
 ghost use Rattle.requests.specs.Wrote.{Answers, Asks};
 use crate::add_line;
@@ -20,7 +20,7 @@ use tables::block::Block;
 
 // Answers a line. The block is known to be well formed, and whether it is fresh.
 pub fn answer_line(line: &[u8], block: &mut [i64], known: Block, reply: &mut [u8]) -> usize
-    requires { ⌜ (wellFormed (now block) ≡ true) × (known .fresh ≡ fresh (now block)) × (longestFixed ≤ length (now reply)) ⌝ }
+    requires { ⌜ (wellFormed (now block) ≡ true) × (known .fresh ≡ isFresh (now block)) × (longestFixed ≤ length (now reply)) ⌝ }
     ensures { λ r. ⌜ Answers (lineAnswer (now (line .entry)) (now (block .entry)) (length (now (reply .entry)))) (now (reply .entry)) (now (block .exit)) (now (reply .exit)) r ⌝ }
 {
     match reader::read(line, block, known) {

@@ -1,15 +1,16 @@
 // Document 01, '01 load', carried out and answered. Its numbers are read from the line into local arrays.
 ghost use mathlib.Core.Path.{_≡_};
 ghost use lib.ListN.{length};
+ghost use Rattle.refusals.specs.declared.Verdict.the-variants.{Fine};
 ghost use Rattle.lines.specs.declared.request.Request.the-variants.{Load as load-of};
-ghost use Rattle.lines.specs.declared.request.Verdict.the-variants.{Fine};
 ghost use Rattle.lines.specs.Layout.{loadPairs, pairAt};
-ghost use Rattle.lines.specs.Numbers.{entriesOf};
-ghost use Rattle.lines.specs.Verdicts.{loadVerdict};
+ghost use Rattle.kinds.specs.Load.{loadVerdict};
+ghost use Rattle.decoding.specs.Numbers.{entriesOf};
 ghost use Rattle.requests.specs.Answer.{requested};
 ghost use Rattle.requests.specs.Wrote.{Answers, Asks};
 use frames::runs;
-use lines::decode;
+use lines::field::Field;
+use lines::kind::Kind;
 use lines::request::Load;
 use operations::load;
 use replies::replies::write_bound;
@@ -37,12 +38,12 @@ fn load_with(
     requires { ⌜ (length (now firsts) ≡ q .pairs .count) × (length (now seconds) ≡ q .pairs .count) × (length (now entries) ≡ length (entriesOf (now line) (loadPairs (now line)))) ⌝ }
     ensures { λ r. ⌜ Answers (requested (load-of q) (now (line .entry)) (now (block .entry))) (now (reply .entry)) (now (block .exit)) (now (reply .exit)) r ⌝ }
 {
-    runs::decode(line, q.sizes.at, 1, sizes);
+    runs::decode(line, q.sizes.at, Field::COUNT_WIDTH, sizes);
     runs::decode(line, q.choices.at, Load::COST_WIDTH, choices);
-    decode::decode_pairs(line, q.pairs.at, firsts, seconds, entries);
+    decoding::decode_pairs(line, q.pairs.at, firsts, seconds, entries);
     let scale = q.scale;
     load::load(block, scale, sizes, choices, firsts, seconds, entries);
-    write_bound(reply, 1, block)
+    write_bound(reply, Kind::Load, block)
 }
 
 // How many costs the m pairs of an accepted load have, of which the first begins at byte `at`.
@@ -50,7 +51,7 @@ fn entry_total(line: &[u8], at: usize, m: usize) -> usize
     requires { ⌜ (loadVerdict (now line) ≡ Fine) × (at ≡ pairAt (now line) 0) × (m ≡ loadPairs (now line)) ⌝ }
     ensures { λ r. ⌜ r ≡ length (entriesOf (now (line .entry)) (loadPairs (now (line .entry)))) ⌝ }
 {
-    (line.len() / 2 - at - 2 * m) / Load::COST_WIDTH
+    (line.len() / 2 - at - Load::PAIR_WIDTH * m) / Load::COST_WIDTH
 }
 
 // Loads a study.

@@ -2,21 +2,21 @@
 ghost use Prim.Native.Nat.{_≤_};
 ghost use lib.ListN.{length};
 ghost use Rattle.tables.specs.WellFormed.{Study};
-ghost use Rattle.replies.specs.Wrote.{longestFixed, Wrote};
+ghost use Rattle.replies.specs.Replies.{longestFixed};
+ghost use Rattle.replies.specs.Wrote.{Wrote};
 ghost use Rattle.requests.specs.Answer.{operated};
-use lines::refusal::Refusal;
-use operations::outcome::Outcome;
+use lines::kind::Kind;
+use refusals::Verdict;
 use replies::replies::write_bound;
 use replies::replies::write_refusal;
 
-// Writes the reply to an operation of kind 2 to 4, by its outcome and the block afterwards.
-pub fn write_outcome(reply: &mut [u8], kind: u64, outcome: Outcome, block: &[i64]) -> usize
-    requires { ⌜ (longestFixed ≤ length (now reply)) × (kind ≤ 4) × Study (now block) ⌝ }
+// Writes the reply to an operation of this kind, by its outcome and the block afterwards.
+pub fn write_outcome(reply: &mut [u8], kind: Kind, outcome: Verdict, block: &[i64]) -> usize
+    requires { ⌜ (longestFixed ≤ length (now reply)) × Study (now block) ⌝ }
     ensures { λ n. ⌜ Wrote (now (reply .entry)) (operated kind outcome (now (block .entry)) (now (block .entry)) .reply) (now (reply .exit)) n ⌝ }
 {
     match outcome {
-        Outcome::Done => write_bound(reply, kind, block),
-        Outcome::CostAbove => write_refusal(reply, Refusal::CostAbove),
-        Outcome::PartsOutside => write_refusal(reply, Refusal::PartsOutside),
+        Verdict::Fine => write_bound(reply, kind, block),
+        Verdict::Declined(r) => write_refusal(reply, r),
     }
 }

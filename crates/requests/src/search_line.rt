@@ -2,11 +2,11 @@
 ghost use Prim.Native.Nat.{_≤_};
 ghost use lib.ListN.{length};
 ghost use Rattle.tables.specs.WellFormed.{Study};
-ghost use Rattle.tables.specs.Ranges.{maxBudget};
+ghost use Rattle.tables.specs.LineLimits.{maxBudget};
 ghost use Rattle.tables.specs.Block.{trains};
 ghost use Rattle.search.specs.Answer.{searchAnswer};
-ghost use Rattle.replies.specs.Replies.{searchReply};
-ghost use Rattle.replies.specs.Wrote.{longestFixed, Wrote};
+ghost use Rattle.replies.specs.Replies.{searchReply, longestFixed};
+ghost use Rattle.replies.specs.Wrote.{Wrote};
 use lines::request::Search;
 use replies::replies::write_search;
 use search::answer;

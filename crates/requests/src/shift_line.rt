@@ -6,6 +6,7 @@ ghost use Rattle.requests.specs.Answer.{requested};
 ghost use Rattle.requests.specs.Wrote.{Answers, Asks};
 use crate::outcome::write_outcome;
 use frames::runs;
+use lines::kind::Kind;
 use lines::request::Shift;
 use tables::block::Block;
 
@@ -27,7 +28,7 @@ fn shift_with(
     runs::decode_signed(line, q.lifts.at, Shift::MOVE_WIDTH, lifts);
     runs::decode_signed(line, q.moves.at, Shift::MOVE_WIDTH, moves);
     let outcome = shift::shift(block, lifts, moves);
-    write_outcome(reply, 3, outcome, block)
+    write_outcome(reply, Kind::Shift, outcome, block)
 }
 
 // Shifts the held costs.

@@ -1,50 +1,43 @@
--- What holds of a judged block; and that a rewriting is declined exactly where one of its numbers ends below 0 or above L, since its shape, its loaded costs and its unused
--- places stay.
+-- A rewriting is declined exactly where one of its numbers ends below 0 or above L, since its shape, its loaded costs and its unused places stay.
 use mathlib.Core.Path.{_≡_, refl, sym, ap, _∙_}
-use mathlib.Core.Bool.{Bool, true, false, cond}
+use mathlib.Core.Bool.{Bool, true, false}
 use mathlib.Core.List.{List}
 use mathlib.Core.Logic.{_↔_, _⊎_, inl, inr, ⊎-elim, dite}
 use Prim.Native.Nat.{ℕ, zero, suc, _<_, _≤_}
 use native.Mathlib.Decide.{decLt}
 use native.Mathlib.Omega.{arith}
 use lib.IntN.{ℤ, pos, negsuc}
-use lib.ListN.{length}
 use borrow.Author.Tests.{lt-ltb, ltb-true}
-use Rattle.tables.specs.Block.{blockLength, maxParts, constantPlace, heldChoicePlace, heldEntryPlace, at, figure, trains, pairs, size, first, second}
-use Rattle.tables.specs.WellFormed.{from-to, within, holdsStudy, Study}
-use Rattle.tables.proofs.Range.{below-suc}
+use Rattle.theory.proofs.Range.{below-suc}
+use Rattle.refusals.specs.declared.Refusal.the-variants.{PartsOutside}
+use Rattle.refusals.specs.declared.Verdict.the-variants.{Fine, Declined}
+use Rattle.refusals.specs.Verdicts.{settled, unless}
+use Rattle.tables.specs.Block.{maxParts, constantPlace, heldChoicePlace, heldEntryPlace, at, figure, trains, pairs, size, first, second}
+use Rattle.tables.specs.WellFormed.{fromTo, within, holdsStudy, Study}
 use Rattle.tables.proofs.Limits.{within-pos}
-use Rattle.tables.proofs.Study.{holds-study, study-holds, SameShape}
-use Rattle.operations.specs.declared.outcome.Outcome.the-variants.{Done, PartsOutside}
+use Rattle.tables.proofs.Study.{study-holds}
 use Rattle.rewriting.specs.Judged.{judged, judgedBlock}
 use Rattle.rewriting.specs.Ends.{Ends, endsOf, SameEnds, Above, Outside, SomeEnd, constant, choice, entry}
-use Rattle.rewriting.proofs.Shape.{study-figure}
-use Rattle.rewriting.proofs.Reach.{Unmet, inside-study}
+use Rattle.rewriting.proofs.Shape.{study-figure, Asked, Moved}
+use Rattle.rewriting.proofs.Reach.{inside-study}
+use Rattle.rewriting.proofs.Rewritten.{rewrites-shape, rewrites-unmet, rewrites-holds}
 
--- what holds of the block as it was and of every study that it may become, holds of the judged block
-pub judged-cases : (P : List ℤ → Type 0) (b c : List ℤ) → length c ≡ blockLength → P b → (Study c → P c) → P (judgedBlock b c)
-judged-cases P b c len x y = go (holdsStudy c) refl
-  where
-    go : (t : Bool) → holdsStudy c ≡ t → P (cond t c b)
-    go true e = y (holds-study c len e)
-    go false e = x
-
-apart : Done ≡ PartsOutside → ⊥
+apart : Fine ≡ Declined PartsOutside → ⊥
 apart q = let z : _≡_ {A = ℕ} 0 1 = cc in omega arith
 
 -- what is not declined is done
-pub done-unless : (c : List ℤ) {A : Type 0} → (judged c ≡ PartsOutside) ↔ A → (judged c ≡ Done) ↔ (A → ⊥)
+pub done-unless : (c : List ℤ) {A : Type 0} → (judged c ≡ Declined PartsOutside) ↔ A → (judged c ≡ Fine) ↔ (A → ⊥)
 done-unless c {A} e = ((λ d w. apart (sym d ∙ e .1 w)), (λ n. go n (holdsStudy c) refl))
   where
-    go : (A → ⊥) → (t : Bool) → holdsStudy c ≡ t → cond t Done PartsOutside ≡ Done
+    go : (A → ⊥) → (t : Bool) → holdsStudy c ≡ t → unless t PartsOutside ≡ Fine
     go n true q = refl
-    go n false q = absurd (n (e .0 (ap (λ (x : Bool). cond x Done PartsOutside) q)))
+    go n false q = absurd (n (e .0 (ap (λ (x : Bool). unless x PartsOutside) q)))
 
 -- ---- a number that is outside, or not
 
-outside-or-in : (z : ℤ) → Outside z ⊎ (within (from-to 0 maxParts) z ≡ true)
+outside-or-in : (z : ℤ) → Outside z ⊎ (within (fromTo 0 maxParts) z ≡ true)
 outside-or-in (pos n) =
-    dite (decLt maxParts n) (λ (h : maxParts < n). inl (inr (lt-ltb maxParts n h))) (λ h. inr (within-pos (from-to 0 maxParts) n (omega arith) (omega arith)))
+    dite (decLt maxParts n) (λ (h : maxParts < n). inl (inr (lt-ltb maxParts n h))) (λ h. inr (within-pos (fromTo 0 maxParts) n (omega arith) (omega arith)))
 outside-or-in (negsuc n) = inl (inl refl)
 
 -- a natural number is not below 0
@@ -68,18 +61,18 @@ find {W} Q (suc n) f =
 -- ---- 12
 
 -- an operation on b ends at c, where the numbers f stand
-module _ {b : List ℤ} (s : Study b) (c : List ℤ) (e : SameShape b c) (unmet : (p : ℕ) → Unmet b p → at c p ≡ at b p) (f : Ends) (same : SameEnds b (endsOf c) f) where
-  abbrev Fine : ℕ → Type 0
-  Fine p = within (from-to 0 maxParts) (at c p) ≡ true
+module _ {R : Asked} {b : List ℤ} (s : Study b) {n : ℕ} {c : List ℤ} (v : Moved R b n c) (f : Ends) (same : SameEnds b (endsOf c) f) where
+  abbrev Inside : ℕ → Type 0
+  Inside p = within (fromTo 0 maxParts) (at c p) ≡ true
 
-  -- a number is outside, or the place is fine
-  at-place : (p : ℕ) {z : ℤ} → at c p ≡ z → (Outside z → SomeEnd Outside b f) → SomeEnd Outside b f ⊎ Fine p
-  at-place p g w = ⊎-elim (λ (o : Outside (at c p)). inl (w (rw g at o))) (λ (h : Fine p). inr h) (outside-or-in (at c p))
+  -- a number is outside, or the place is within its limits
+  at-place : (p : ℕ) {z : ℤ} → at c p ≡ z → (Outside z → SomeEnd Outside b f) → SomeEnd Outside b f ⊎ Inside p
+  at-place p g w = ⊎-elim (λ (o : Outside (at c p)). inl (w (rw g at o))) (λ (h : Inside p). inr h) (outside-or-in (at c p))
 
-  some-choice : SomeEnd Outside b f ⊎ ((i : ℕ) → i < trains b → (a : ℕ) → a < size b i → Fine (heldChoicePlace i a))
+  some-choice : SomeEnd Outside b f ⊎ ((i : ℕ) → i < trains b → (a : ℕ) → a < size b i → Inside (heldChoicePlace i a))
   some-choice = find _ (trains b) (λ i h. find _ (size b i) (λ a q. at-place (heldChoicePlace i a) (same .choice i a h q) (choice i a h q)))
 
-  some-entry : SomeEnd Outside b f ⊎ ((k : ℕ) → k < pairs b → (a : ℕ) → a < size b (first b k) → (d : ℕ) → d < size b (second b k) → Fine (heldEntryPlace k a d))
+  some-entry : SomeEnd Outside b f ⊎ ((k : ℕ) → k < pairs b → (a : ℕ) → a < size b (first b k) → (d : ℕ) → d < size b (second b k) → Inside (heldEntryPlace k a d))
   some-entry =
       find _ (pairs b) (λ k h. find _ (size b (first b k)) (λ a q. find _ (size b (second b k)) (λ d r.
       at-place (heldEntryPlace k a d) (same .entry k a d h q r) (entry k a d h q r))))
@@ -88,10 +81,10 @@ module _ {b : List ℤ} (s : Study b) (c : List ℤ) (e : SameShape b c) (unmet 
   some-or-study : SomeEnd Outside b f ⊎ Study c
   some-or-study =
       ⊎-elim (λ (w : SomeEnd Outside b f). inl w)
-      (λ (x : Fine constantPlace). ⊎-elim (λ (w : SomeEnd Outside b f). inl w)
-      (λ (y : (i : ℕ) → i < trains b → (a : ℕ) → a < size b i → Fine (heldChoicePlace i a)). ⊎-elim (λ (w : SomeEnd Outside b f). inl w)
-      (λ (z : (k : ℕ) → k < pairs b → (a : ℕ) → a < size b (first b k) → (d : ℕ) → d < size b (second b k) → Fine (heldEntryPlace k a d)).
-      inr (inside-study s c e unmet x (λ i a h q. y i h a q) (λ k a d h q r. z k h a q d r)))
+      (λ (x : Inside constantPlace). ⊎-elim (λ (w : SomeEnd Outside b f). inl w)
+      (λ (y : (i : ℕ) → i < trains b → (a : ℕ) → a < size b i → Inside (heldChoicePlace i a)). ⊎-elim (λ (w : SomeEnd Outside b f). inl w)
+      (λ (z : (k : ℕ) → k < pairs b → (a : ℕ) → a < size b (first b k) → (d : ℕ) → d < size b (second b k) → Inside (heldEntryPlace k a d)).
+      inr (inside-study s c (rewrites-shape s v) (rewrites-unmet s v) x (λ i a h q. y i h a q) (λ k a d h q r. z k h a q d r)))
       some-entry)
       some-choice)
       (at-place constantPlace (same .constant) constant)
@@ -113,22 +106,22 @@ module _ {b : List ℤ} (s : Study b) (c : List ℤ) (e : SameShape b c) (unmet 
   judged-by P x y = ⊎-elim (λ (w : SomeEnd Outside b f). go w (holdsStudy c) refl) (λ (t : Study c). rw (study-holds t) (y t)) some-or-study
     where
       go : SomeEnd Outside b f → (u : Bool) → holdsStudy c ≡ u → P u
-      go w true q = absurd (study-inside (holds-study c (e .whole ∙ s .whole) q) w)
+      go w true q = absurd (study-inside (rewrites-holds s v q) w)
       go w false q = x w
 
   -- 12 exactly where one of the numbers is outside
-  pub judged-outside : (judged c ≡ PartsOutside) ↔ SomeEnd Outside b f
+  pub judged-outside : (judged c ≡ Declined PartsOutside) ↔ SomeEnd Outside b f
   judged-outside =
-      judged-by (λ u. (cond u Done PartsOutside ≡ PartsOutside) ↔ SomeEnd Outside b f) (λ w. ((λ q. w), (λ v. refl)))
+      judged-by (λ u. (unless u PartsOutside ≡ Declined PartsOutside) ↔ SomeEnd Outside b f) (λ w. ((λ q. w), (λ v. refl)))
       (λ t. ((λ q. absurd (apart q)), (λ w. absurd (study-inside t w))))
 
   -- where none is, they stand in the block
-  pub judged-ends : judged c ≡ Done → SameEnds b (endsOf (judgedBlock b c)) f
+  pub judged-ends : judged c ≡ Fine → SameEnds b (endsOf (judgedBlock b c)) f
   judged-ends =
-      judged-by (λ u. cond u Done PartsOutside ≡ Done → SameEnds b (endsOf (cond u c b)) f) (λ w. λ q. absurd (apart (sym q))) (λ t. λ q. same)
+      judged-by (λ u. unless u PartsOutside ≡ Fine → SameEnds b (endsOf (settled (unless u PartsOutside) b c)) f) (λ w. λ q. absurd (apart (sym q))) (λ t. λ q. same)
 
   -- of an end without a number below 0, 'above L' alone is the case
-  pub judged-above : ((p : ℕ) → at c p ≡ pos (figure c p)) → (judged c ≡ PartsOutside) ↔ SomeEnd Above b f
+  pub judged-above : ((p : ℕ) → at c p ≡ pos (figure c p)) → (judged c ≡ Declined PartsOutside) ↔ SomeEnd Above b f
   judged-above natural = ((λ q. up (judged-outside .0 q)), (λ w. judged-outside .1 (down w)))
     where
       at-end : (p : ℕ) {z : ℤ} → at c p ≡ z → Outside z → Above z

@@ -2,9 +2,9 @@
 pub mod Words
 pub mod Runs
 pub mod Shape
-pub mod Folds
 pub mod Steps
 pub mod Turns
 pub mod Totals
 pub mod Reach
+pub mod Rewritten
 pub mod Judged

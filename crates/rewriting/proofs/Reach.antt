@@ -9,12 +9,12 @@ use native.Mathlib.Omega.{arith}
 use lib.Dec.{ltb}
 use lib.IntN.{ℤ, pos}
 use borrow.Author.Tests.{lt-ltb, ltb-true}
-use Rattle.tables.specs.Sum.{update}
+use Rattle.theory.specs.Sum.{update}
+use Rattle.theory.proofs.Range.{both-true, not-both}
+use Rattle.theory.proofs.Sum.{update-same, update-other}
 use Rattle.tables.specs.Block.{blockLength, maxTrains, maxChoices, maxPairs, maxParts, entriesOfPair, constantPlace, loadedChoicesFrom, heldChoicesFrom, loadedEntriesFrom, heldEntriesFrom, heldChoicePlace, heldEntryPlace, at, figure, trains, pairs, constant, size, first, second, heldChoice, heldEntry}
 use Rattle.tables.specs.Plans.{IsPlan, total, shapeOf, heldCosts, heldTotal}
-use Rattle.tables.specs.WellFormed.{from-to, within, usedIf, choiceUsed, entryUsed, headLimits, limitsAt, Study}
-use Rattle.tables.proofs.Range.{both-true}
-use Rattle.tables.proofs.Sum.{update-same, update-other}
+use Rattle.tables.specs.WellFormed.{fromTo, within, usedIf, choiceUsed, entryUsed, headLimits, limitsAt, Study}
 use Rattle.tables.proofs.Limits.{within-pos, choice-used, entry-used, limits-head, limits-held-choices, limits-held-entries}
 use Rattle.tables.proofs.Study.{SameShape, study-from, trains-range, size-range, first-below-second, first-below-trains, second-below-trains}
 use Rattle.tables.proofs.Plans.{same-shape-total, constant-at-most-total, choice-at-most-total, pair-at-most-total}
@@ -76,11 +76,8 @@ offset-entry b o t =
     let v = both-true (ltb (o % 64 / 8) (size b (first b (o / 64)))) (ltb (o % 8) (size b (second b (o / 64)))) (u .1) in
     (ltb-true _ _ (u .0), ltb-true _ _ (v .0), ltb-true _ _ (v .1))
 
-never : (t : Bool) → t ≡ true → t ≡ false → ⊥
-never t p q = let z : _≡_ {A = ℕ} 0 1 = cc in omega arith
-
 -- the constant's own limits
-head-place : (z : ℤ) → within (from-to 0 maxParts) z ≡ true → within (headLimits constantPlace) z ≡ true
+head-place : (z : ℤ) → within (fromTo 0 maxParts) z ≡ true → within (headLimits constantPlace) z ≡ true
 unfolding headLimits
 head-place z e = e
 
@@ -88,10 +85,10 @@ head-place z e = e
 
 -- c has the shape of b, differs from it only where a plan pays, and has there a constant, choices and entries from 0 to L
 module _ {b : List ℤ} (s : Study b) (c : List ℤ) (e : SameShape b c) (unmet : (p : ℕ) → Unmet b p → at c p ≡ at b p)
-    (constant-in : within (from-to 0 maxParts) (at c constantPlace) ≡ true)
-    (choice-in : (i a : ℕ) → i < trains b → a < size b i → within (from-to 0 maxParts) (at c (heldChoicePlace i a)) ≡ true)
-    (entry-in : (k a d : ℕ) → k < pairs b → a < size b (first b k) → d < size b (second b k) → within (from-to 0 maxParts) (at c (heldEntryPlace k a d)) ≡ true) where
-  by-use : (t : Bool) (p : ℕ) → p < blockLength → limitsAt b p ≡ usedIf t (from-to 0 maxParts) → (t ≡ true → within (from-to 0 maxParts) (at c p) ≡ true) → (t ≡ false → Unmet b p)
+    (constant-in : within (fromTo 0 maxParts) (at c constantPlace) ≡ true)
+    (choice-in : (i a : ℕ) → i < trains b → a < size b i → within (fromTo 0 maxParts) (at c (heldChoicePlace i a)) ≡ true)
+    (entry-in : (k a d : ℕ) → k < pairs b → a < size b (first b k) → d < size b (second b k) → within (fromTo 0 maxParts) (at c (heldEntryPlace k a d)) ≡ true) where
+  by-use : (t : Bool) (p : ℕ) → p < blockLength → limitsAt b p ≡ usedIf t (fromTo 0 maxParts) → (t ≡ true → within (fromTo 0 maxParts) (at c p) ≡ true) → (t ≡ false → Unmet b p)
       → within (limitsAt b p) (at c p) ≡ true
   by-use true p h z f g = rw z (f refl)
   by-use false p h z f g = rw (unmet p (g refl)) (s .places p h)
@@ -99,7 +96,7 @@ module _ {b : List ℤ} (s : Study b) (c : List ℤ) (e : SameShape b c) (unmet 
   held-choice : (o : ℕ) → o < maxTrains * maxChoices → within (limitsAt b (heldChoicesFrom + o)) (at c (heldChoicesFrom + o)) ≡ true
   held-choice o h = by-use (choiceUsed b o) (heldChoicesFrom + o) (omega arith) (limits-held-choices b o h) taken free
     where
-      taken : choiceUsed b o ≡ true → within (from-to 0 maxParts) (at c (heldChoicesFrom + o)) ≡ true
+      taken : choiceUsed b o ≡ true → within (fromTo 0 maxParts) (at c (heldChoicesFrom + o)) ≡ true
       taken t =
           let u = offset-choice b o t in
           let z : heldChoicePlace (o / 8) (o % 8) ≡ heldChoicesFrom + o = omega arith in
@@ -111,14 +108,14 @@ module _ {b : List ℤ} (s : Study b) (c : List ℤ) (e : SameShape b c) (unmet 
             constant = λ z. omega arith;
             choices = λ i a l q z.
                 let g : maxChoices * i + a ≡ o = omega arith in
-                never (choiceUsed b o) (ap (choiceUsed b) (sym g) ∙ choice-used b i a (omega (arith, size-range s i l)) ∙ rw (lt-ltb i (trains b) l, lt-ltb a (size b i) q)) t;
+                not-both (ap (choiceUsed b) (sym g) ∙ choice-used b i a (omega (arith, size-range s i l)) ∙ rw (lt-ltb i (trains b) l, lt-ltb a (size b i) q)) t;
             entries = λ k a d l q r z. omega arith;
           }
 
   held-entry : (o : ℕ) → o < maxPairs * entriesOfPair → within (limitsAt b (heldEntriesFrom + o)) (at c (heldEntriesFrom + o)) ≡ true
   held-entry o h = by-use (entryUsed b o) (heldEntriesFrom + o) (omega arith) (limits-held-entries b o) taken free
     where
-      taken : entryUsed b o ≡ true → within (from-to 0 maxParts) (at c (heldEntriesFrom + o)) ≡ true
+      taken : entryUsed b o ≡ true → within (fromTo 0 maxParts) (at c (heldEntriesFrom + o)) ≡ true
       taken t =
           let u = offset-entry b o t in
           let z : heldEntryPlace (o / 64) (o % 64 / 8) (o % 8) ≡ heldEntriesFrom + o = omega arith in
@@ -133,7 +130,7 @@ module _ {b : List ℤ} (s : Study b) (c : List ℤ) (e : SameShape b c) (unmet 
                 let g : entriesOfPair * k + (maxChoices * a + d) ≡ o = omega arith in
                 let m = size-range s (first b k) (first-below-trains s k l) in
                 let n = size-range s (second b k) (second-below-trains s k l) in
-                never (entryUsed b o)
+                not-both
                 (ap (entryUsed b) (sym g) ∙ entry-used b k a d (omega arith) (omega arith)
                 ∙ rw (lt-ltb k (pairs b) l, lt-ltb a (size b (first b k)) q, lt-ltb d (size b (second b k)) r)) t;
           }
@@ -159,11 +156,11 @@ module _ {b : List ℤ} (s : Study b) (c : List ℤ) (e : SameShape b c) (unmet 
 module _ {b : List ℤ} (s : Study b) where
   -- choice 0 everywhere, and a plan with train i at another choice
   plain-plan : IsPlan (shapeOf b) (λ i. 0)
-  unfolding IsPlan shapeOf
+  unfolding IsPlan
   plain-plan i h = size-range s i h .0
 
   update-plan : (x : ℕ → ℕ) (i a : ℕ) → IsPlan (shapeOf b) x → a < size b i → IsPlan (shapeOf b) (update x i a)
-  unfolding IsPlan shapeOf
+  unfolding IsPlan
   update-plan x i a p q j h =
       dite (ℕ-discrete j i) (λ (e : j ≡ i). rw (update-same x i a j e, e) q) (λ n. rw (update-other x i a j n) (p j h))
 
@@ -177,7 +174,7 @@ module _ {b : List ℤ} (s : Study b) where
     constant-most = omega (arith, low-total (λ i. 0) plain-plan, constant-at-most-total (shapeOf b) (heldCosts c) (λ i. 0))
 
     choice-most : (i a : ℕ) → i < trains b → a < size b i → heldChoice c i a ≤ maxParts
-    unfolding heldCosts shapeOf
+    unfolding heldCosts
     choice-most i a h q =
         let x = update (λ j. 0) i a in
         omega (
@@ -188,7 +185,7 @@ module _ {b : List ℤ} (s : Study b) where
         )
 
     entry-most : (k a d : ℕ) → k < pairs b → a < size b (first b k) → d < size b (second b k) → heldEntry c k a d ≤ maxParts
-    unfolding heldCosts shapeOf
+    unfolding heldCosts
     entry-most k a d h q r =
         let y = update (λ j. 0) (first b k) a in
         let x = update y (second b k) d in
@@ -209,5 +206,5 @@ module _ {b : List ℤ} (s : Study b) where
         inside-study s c e unmet (low-place constantPlace constant-most) (λ i a h q. low-place (heldChoicePlace i a) (choice-most i a h q))
         (λ k a d h q r. low-place (heldEntryPlace k a d) (entry-most k a d h q r))
       where
-        low-place : (p : ℕ) → figure c p ≤ maxParts → within (from-to 0 maxParts) (at c p) ≡ true
-        low-place p h = rw (natural p) (within-pos (from-to 0 maxParts) (figure c p) (omega arith) h)
+        low-place : (p : ℕ) → figure c p ≤ maxParts → within (fromTo 0 maxParts) (at c p) ≡ true
+        low-place p h = rw (natural p) (within-pos (fromTo 0 maxParts) (figure c p) (omega arith) h)

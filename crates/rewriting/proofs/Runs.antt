@@ -10,9 +10,9 @@ use lib.IntN.{ℤ, pos, negℤ, _+ℤ_}
 use lib.ListN.{length, set, length-set}
 use lib.Seq.{getD-set-same, getD-set-other}
 use lib.Signed.{mag}
+use Rattle.theory.proofs.Range.{below-suc}
+use Rattle.theory.proofs.Fold.{iter-ind}
 use Rattle.tables.specs.Block.{at}
-use Rattle.tables.proofs.Range.{below-suc}
-use Rattle.operations.proofs.Fold.{iter-ind}
 use Rattle.rewriting.specs.declared.sides.PlaceRun.{PlaceRun}
 use Rattle.rewriting.specs.Moves.{Room, RunIn, runPlace, addAt, addRun, moveRun}
 use Rattle.rewriting.proofs.Words.{mag-plus, mag-neg}

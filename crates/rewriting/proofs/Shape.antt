@@ -11,12 +11,12 @@ use lib.Dec.{ltb, eqb}
 use lib.IntN.{ℤ, pos}
 use lib.ListN.{length, List·getD-eq-default}
 use lib.Signed.{mag}
+use Rattle.theory.specs.Fold.{iter}
+use Rattle.theory.proofs.Fold.{iter-ind}
 use Rattle.units.specs.Units.{scaleMin, scaleMax}
 use Rattle.tables.specs.Block.{blockLength, maxTrains, maxChoices, maxPairs, maxCost, maxParts, trainsPlace, scalePlace, pairsPlace, constantPlace, sizesFrom, firstsFrom, secondsFrom, loadedChoicesFrom, heldChoicesFrom, loadedEntriesFrom, heldEntriesFrom, at, figure, trains, pairs, size, first, second}
-use Rattle.tables.specs.WellFormed.{Limits, from-to, usedIf, choiceUsed, entryUsed, headLimits, shapeLimits, costLimits, limitsAt, Study}
+use Rattle.tables.specs.WellFormed.{Limits, fromTo, usedIf, choiceUsed, entryUsed, headLimits, shapeLimits, costLimits, limitsAt, Study}
 use Rattle.tables.proofs.Study.{study-place, trains-range, pairs-range, size-range, size-high, first-high, second-high, first-below-trains, second-below-trains, SameShape, same-trains, same-pairs, same-size, same-first, same-second}
-use Rattle.operations.specs.Fold.{iter}
-use Rattle.operations.proofs.Fold.{iter-ind}
 use Rattle.rewriting.specs.declared.sides.PlaceRun.{PlaceRun}
 use Rattle.rewriting.specs.declared.sides.Side.{Side}
 use Rattle.rewriting.specs.declared.sides.Side.the-variants.{Rows, Columns}
@@ -33,10 +33,10 @@ choose : (t : Bool) {l m : Limits} → Most l → Most m → Most (cond t l m)
 choose true p q = p
 choose false p q = q
 
-range : (low high : ℕ) → high ≤ maxParts → Most (from-to low high)
+range : (low high : ℕ) → high ≤ maxParts → Most (fromTo low high)
 range low high h = record { most = h }
 
-used : (t : Bool) (low high : ℕ) → high ≤ maxParts → Most (usedIf t (from-to low high))
+used : (t : Bool) (low high : ℕ) → high ≤ maxParts → Most (usedIf t (fromTo low high))
 used t low high h = choose t (range low high h) (range 0 0 (omega arith))
 
 pub limits-most : (b : List ℤ) (p : ℕ) → Most (limitsAt b p)

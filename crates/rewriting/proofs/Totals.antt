@@ -2,64 +2,22 @@
 use mathlib.Core.Path.{_≡_, refl, sym, ap, ap₂, _∙_}
 use mathlib.Core.List.{List}
 use mathlib.Core.Logic.{_⊎_, inl, inr, ⊎-elim, _≢_}
-use Prim.Native.Nat.{ℕ, zero, suc, _<_, _≤_}
+use Prim.Native.Nat.{ℕ, _<_, _≤_}
 use native.Mathlib.Decide.{ℕ-discrete}
 use native.Mathlib.Omega.{arith}
-use lib.IntN.{ℤ, pos, negℤ, _+ℤ_, +ℤ-assoc, +ℤ-comm, +ℤ-idr, +ℤ-idl, +ℤ-invr}
+use lib.IntN.{ℤ, pos, negℤ, _+ℤ_, +ℤ-idl, +ℤ-invr}
 use lib.ListN.{length}
-use Rattle.tables.specs.Sum.{sum}
+use Rattle.theory.specs.Whole.{sumℤ}
+use Rattle.theory.proofs.Whole.{sumℤ-cong, sumℤ-one, sumℤ-pos, unchanged, parts-kept}
 use Rattle.tables.specs.Block.{blockLength, maxTrains, maxChoices, constantPlace, heldEntriesFrom, heldChoicePlace, heldEntryPlace, at, nat, figure, trains, pairs, size, first, second}
 use Rattle.tables.specs.Plans.{IsPlan, choiceTotal, pairTotal, total, shapeOf, heldCosts, heldTotal}
 use Rattle.tables.specs.WellFormed.{Study}
-use Rattle.tables.proofs.Range.{below-suc}
 use Rattle.tables.proofs.Plans.{same-shape-total}
 use Rattle.rewriting.specs.declared.sides.PlaceRun.{PlaceRun}
 use Rattle.rewriting.specs.declared.sides.Side.the-variants.{Rows, Columns}
-use Rattle.rewriting.specs.Whole.{sumℤ}
 use Rattle.rewriting.specs.Moves.{ShapeInRange, moveRun, laneRun, choicesRun, NonEmpty}
 use Rattle.rewriting.proofs.Runs.{Met, Missed, move-to, move-met, move-other}
 use Rattle.rewriting.proofs.Shape.{study-figure, study-shape-in-range, study-non-empty, Project, lane, unary, lanes-most, BetweenCosts, project-between-costs, between-costs-run, Asked, Moved, none, move, moved-shape}
-
--- ---- sums of whole numbers
-
-pub sumℤ-cong : (n : ℕ) (f g : ℕ → ℤ) → ((i : ℕ) → i < n → f i ≡ g i) → sumℤ n f ≡ sumℤ n g
-unfolding sumℤ
-sumℤ-cong zero f g h = refl
-sumℤ-cong (suc n) f g h = ap₂ _+ℤ_ (sumℤ-cong n f g (λ i l. h i (omega arith))) (h n (omega arith))
-
-swap : (a b c : ℤ) → (a +ℤ b) +ℤ c ≡ (a +ℤ c) +ℤ b
-swap a b c = +ℤ-assoc a b c ∙ ap (λ (z : ℤ). a +ℤ z) (+ℤ-comm b c) ∙ sym (+ℤ-assoc a c b)
-
--- one changed term
-pub sumℤ-one : (n k : ℕ) (f g : ℕ → ℤ) (δ : ℤ) → k < n → ((i : ℕ) → i < n → i ≢ k → f i ≡ g i) → f k ≡ g k +ℤ δ → sumℤ n f ≡ sumℤ n g +ℤ δ
-unfolding sumℤ
-sumℤ-one zero k f g δ h e d = absurd (omega arith)
-sumℤ-one (suc n) k f g δ h e d =
-    ⊎-elim
-    (λ (q : k ≡ n). ap₂ _+ℤ_ (sumℤ-cong n f g (λ i l. e i (omega arith) (λ r. omega arith))) (rw q at d) ∙ sym (+ℤ-assoc (sumℤ n g) (g n) δ))
-    (λ (q : k < n). ap₂ _+ℤ_ (sumℤ-one n k f g δ q (λ i l. e i (omega arith)) d) (e n (omega arith) (λ r. omega arith)) ∙ swap (sumℤ n g) δ (g n))
-    (below-suc k n h)
-
-pub sumℤ-pos : (n : ℕ) (f : ℕ → ℤ) (g : ℕ → ℕ) → ((i : ℕ) → i < n → f i ≡ pos (g i)) → sumℤ n f ≡ pos (sum n g)
-unfolding sumℤ sum
-sumℤ-pos zero f g h = refl
-sumℤ-pos (suc n) f g h = ap₂ _+ℤ_ (sumℤ-pos n f g (λ i l. h i (omega arith))) (h n (omega arith))
-
--- a is p, changed by δ
-pub record Changed (a p δ : ℤ) : Type 0 where
-  pub by : a ≡ p +ℤ δ
-
-unchanged : {a p : ℤ} → a ≡ p → Changed a p (pos 0)
-unchanged {p = p} e = record { by = e ∙ sym (+ℤ-idr p) }
-
--- three parts whose changes cancel
-parts-kept : {a b c p q r d e f : ℤ} → Changed a p d → Changed b q e → Changed c r f → (d +ℤ e) +ℤ f ≡ pos 0 → (a +ℤ b) +ℤ c ≡ (p +ℤ q) +ℤ r
-parts-kept {p = p} {q} {r} {d} {e} {f} x y z w =
-    rw (x .by, y .by, z .by)
-    (ap (λ (t : ℤ). t +ℤ (r +ℤ f)) (pair p d q e) ∙ pair (p +ℤ q) (d +ℤ e) r f ∙ ap (λ (t : ℤ). ((p +ℤ q) +ℤ r) +ℤ t) w ∙ +ℤ-idr ((p +ℤ q) +ℤ r))
-  where
-    pair : (p d q e : ℤ) → (p +ℤ d) +ℤ (q +ℤ e) ≡ (p +ℤ q) +ℤ (d +ℤ e)
-    pair p d q e = sym (+ℤ-assoc (p +ℤ d) q e) ∙ ap (λ (t : ℤ). t +ℤ e) (swap p d q) ∙ +ℤ-assoc (p +ℤ q) d e
 
 -- ---- a plan's total over whole numbers, by the shape of b and the costs of c
 
@@ -75,7 +33,7 @@ module _ (b : List ℤ) (x : ℕ → ℕ) where
 
   -- where all numbers are natural, it is the plan's total
   pub paid-natural : (c : List ℤ) → ((p : ℕ) → at c p ≡ pos (figure c p)) → paid c ≡ pos (total (shapeOf b) (heldCosts c) x)
-  unfolding paid total choiceTotal pairTotal shapeOf heldCosts
+  unfolding paid total choiceTotal pairTotal heldCosts
   paid-natural c h =
       ap₂ _+ℤ_ (ap₂ _+ℤ_ (h constantPlace) (sumℤ-pos (trains b) (paidChoice c) _ (λ i l. h (heldChoicePlace i (x i)))))
       (sumℤ-pos (pairs b) (paidPair c) _ (λ k l. h (heldEntryPlace k (x (first b k)) (x (second b k)))))
@@ -185,7 +143,7 @@ pos-same m n e = ap nat e
 -- a chain that begins at a study and ends where every number is natural keeps every plan's total
 pub moved-keeps-total : {R : Asked} {b c : List ℤ} {n : ℕ} → Study b → Moved R b n c → ((p : ℕ) → at c p ≡ pos (figure c p))
     → (x : ℕ → ℕ) → IsPlan (shapeOf b) x → heldTotal c x ≡ heldTotal b x
-unfolding IsPlan shapeOf
+unfolding IsPlan
 moved-keeps-total {b = b} {c} s v natural x p =
     let w : Taken b x = record { inRange = study-shape-in-range s; nonEmpty = study-non-empty s; plan = p } in
     same-shape-total (moved-shape (study-shape-in-range s) v) s (heldCosts c) x

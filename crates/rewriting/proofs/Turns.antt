@@ -11,16 +11,17 @@ use native.Mathlib.Omega.{arith}
 use lib.Dec.{eqb}
 use lib.IntN.{ℤ, pos, negℤ, _+ℤ_, _-ℤ_, +ℤ-idr}
 use borrow.Author.Tests.{eq-eqb, ne-eqb}
+use Rattle.theory.specs.Whole.{sumℤ}
+use Rattle.theory.specs.Fold.{iter}
+use Rattle.theory.proofs.Fold.{iter-ind}
+use Rattle.theory.proofs.Turns.{fold-leaves, fold-turn, fold-sum}
 use Rattle.tables.specs.Block.{maxTrains, constantPlace, heldChoicePlace, heldEntryPlace, at, trains, pairs, size, first, second}
 use Rattle.tables.proofs.Study.{SameShape, same-trains}
-use Rattle.operations.specs.Fold.{iter}
-use Rattle.operations.proofs.Fold.{iter-ind}
 use Rattle.rewriting.specs.declared.sides.Side.{Side}
 use Rattle.rewriting.specs.declared.sides.Side.the-variants.{Rows, Columns}
-use Rattle.rewriting.specs.Whole.{sumℤ, ofPair}
+use Rattle.rewriting.specs.Ends.{ofPair}
 use Rattle.rewriting.specs.Moves.{ShapeInRange, laneTrain, project, projectUnary}
 use Rattle.rewriting.proofs.Shape.{same-lanes, lane-train, lane, unary, project-between-costs, move-shape, shape-then}
-use Rattle.rewriting.proofs.Folds.{fold-leaves, fold-turn, fold-sum}
 use Rattle.rewriting.proofs.Steps.{acrossTrain, lanePlace, choice-low, choices-apart, choices-same, lane-same, unary-constant, unary-choice, unary-choice-other, unary-high, project-choice, project-low, project-entry, project-entry-other}
 
 -- ---- what a pair has for a train

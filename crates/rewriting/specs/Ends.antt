@@ -1,9 +1,10 @@
 -- Document 01, 12: 'c0 or an entry would end below 0 or above L', as a statement about the numbers that an operation ends with.
 use mathlib.Core.Path.{_≡_}
-use mathlib.Core.Bool.{true}
+use mathlib.Core.Bool.{true, cond}
 use mathlib.Core.List.{List}
 use mathlib.Core.Logic.{_⊎_}
 use Prim.Native.Nat.{ℕ, _<_}
+use lib.Dec.{eqb}
 use lib.IntN.{ℤ, pos}
 use lib.Signed.{ltZ}
 use Rattle.tables.specs.Block.{maxParts, constantPlace, heldChoicePlace, heldEntryPlace, at, trains, pairs, size, first, second}
@@ -23,6 +24,10 @@ pub record SameEnds (b : List ℤ) (e f : Ends) : Type 0 where
   pub constant : e .constant ≡ f .constant
   pub choice : (i a : ℕ) → i < trains b → a < size b i → e .choice i a ≡ f .choice i a
   pub entry : (k a d : ℕ) → k < pairs b → a < size b (first b k) → d < size b (second b k) → e .entry k a d ≡ f .entry k a d
+
+-- what pair k has for train i: r where i is its first train, q where it is its second, z where it is neither
+unfoldable pub ofPair : {A : Type 0} → List ℤ → ℕ → ℕ → A → A → A → A
+ofPair b k i r q z = cond (eqb i (first b k)) r (cond (eqb i (second b k)) q z)
 
 -- 'below 0', and 'above L'
 abbrev pub Below : ℤ → Type 0

@@ -5,8 +5,8 @@ use Prim.Native.Nat.{ℕ, _+_, _*_, _<_, _≤_}
 use lib.IntN.{ℤ, negℤ, _+ℤ_, pos}
 use lib.ListN.{length, set}
 use lib.Signed.{mag}
+use Rattle.theory.specs.Fold.{iter}
 use Rattle.tables.specs.Block.{blockLength, maxTrains, maxChoices, maxPairs, constantPlace, heldChoicePlace, heldEntryPlace, at, trains, pairs, size, first, second, maxParts, heldEntriesFrom, figure}
-use Rattle.operations.specs.Fold.{iter}
 use Rattle.rewriting.specs.declared.sides.PlaceRun.{PlaceRun}
 use Rattle.rewriting.specs.declared.sides.Side.{Side}
 use Rattle.rewriting.specs.declared.sides.Side.the-variants.{Rows, Columns}

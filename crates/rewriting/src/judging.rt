@@ -3,7 +3,8 @@ ghost use mathlib.Core.Path.{_≡_};
 ghost use lib.ListN.{length};
 ghost use Rattle.tables.specs.Block.{blockLength};
 ghost use Rattle.rewriting.specs.Judged.{judged, judgedBlock};
-use operations::outcome::Outcome;
+use refusals::Refusal;
+use refusals::Verdict;
 use tables::well_formed;
 
 // Copies a block.
@@ -19,14 +20,14 @@ pub fn copy(to: &mut [i64], from: &[i64])
 }
 
 // Puts the end of an operation in the place of the block, where it is within the limits.
-pub fn settle(block: &mut [i64], end: &[i64]) -> Outcome
+pub fn settle(block: &mut [i64], end: &[i64]) -> Verdict
     requires { ⌜ (length (now block) ≡ blockLength) × (length (now end) ≡ blockLength) ⌝ }
     ensures { λ r. ⌜ (r ≡ judged (now (end .entry))) × (now (block .exit) ≡ judgedBlock (now (block .entry)) (now (end .entry))) ⌝ }
 {
     if well_formed::holds_study(end) {
         copy(block, end);
-        Outcome::Done
+        Verdict::Fine
     } else {
-        Outcome::PartsOutside
+        Verdict::Declined(Refusal::PartsOutside)
     }
 }

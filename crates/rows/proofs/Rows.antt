@@ -11,10 +11,10 @@ use lib.Dec.{eqb}
 use lib.IntN.{ℤ}
 use lib.ListN.{getD}
 use borrow.Author.Tests.{eq-eqb, ne-eqb}
-use Rattle.tables.specs.Sum.{sum}
+use Rattle.theory.specs.Sum.{sum}
+use Rattle.theory.proofs.Sum.{sum-none, sum-more, sum-cong, sum-most}
 use Rattle.tables.specs.Block.{maxTrains, maxChoices, maxPairs, maxParts, trains, pairs, first, second, heldEntry}
 use Rattle.tables.specs.WellFormed.{Study}
-use Rattle.tables.proofs.Sum.{sum-none, sum-more, sum-cong, sum-most}
 use Rattle.tables.proofs.Study.{trains-range, pairs-range, size-range, held-choice-high, held-entry-high, first-below-second, pairs-ascend}
 use Rattle.rows.specs.Added.{rowAdded, sumBelow}
 use Rattle.rows.specs.Sums.{Summed, Steady, Carrying}

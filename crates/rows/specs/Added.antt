@@ -4,13 +4,8 @@ use mathlib.Core.List.{List}
 use Prim.Native.Nat.{ℕ, _+_}
 use lib.Dec.{eqb}
 use lib.IntN.{ℤ}
-use lib.ListN.{getD}
-use Rattle.tables.specs.Sum.{sum}
+use Rattle.theory.specs.Sum.{sum}
 use Rattle.tables.specs.Block.{first, second, heldChoice, heldEntry}
-
--- the choices that a list gives, by train
-abbrev pub choicesOf : List ℕ → ℕ → ℕ
-choicesOf l i = getD l i 0
 
 -- what pair k adds to choice a of train j, with the choices x of the trains before: its cost where j is its second train
 abbrev pub rowAdded : List ℤ → (ℕ → ℕ) → ℕ → ℕ → ℕ → ℕ

@@ -6,7 +6,8 @@ use lib.IntN.{ℤ}
 use lib.ListN.{length, getD}
 use Rattle.tables.specs.Block.{maxChoices, trains, size, second, heldChoice}
 use Rattle.tables.specs.WellFormed.{Study}
-use Rattle.rows.specs.Added.{choicesOf, sumBelow}
+use Rattle.tables.specs.Plans.{choicesOf}
+use Rattle.rows.specs.Added.{sumBelow}
 use Rattle.rows.specs.Links.{ownRow, pairRow, sumsLength}
 use Rattle.rows.specs.Table.{beginOf, Laid}
 

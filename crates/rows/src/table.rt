@@ -46,7 +46,7 @@ fn lay_costs(b: &[i64], table: &mut [u64])
     let m = block::pairs(b);
     let mut k = 0;
     while k < m {
-        let rows = block::size(b, block::first(b, k));
+        let rows = counts::rows_of(b, k);
         copy(
             b,
             Block::HELD_ENTRIES_FROM + Block::ENTRIES * k,

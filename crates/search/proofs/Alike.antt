@@ -11,9 +11,8 @@ use lib.ListN.{length, getD, set, length-set}
 use lib.Seq.{getD-set-same, getD-set-other}
 use Rattle.tables.specs.Block.{maxTrains, trains}
 use Rattle.tables.specs.WellFormed.{Study}
-use Rattle.tables.specs.Plans.{Shape, Costs, shapeOf, heldCosts}
+use Rattle.tables.specs.Plans.{choicesOf, Shape, Costs, heldCosts}
 use Rattle.tables.proofs.Study.{trains-range}
-use Rattle.rows.specs.Added.{choicesOf}
 use Rattle.search.specs.declared.walk.Walk.{Walk}
 use Rattle.search.specs.Walk.{added, Decided, oneTry, triedFrom, choiceTry, openedTrain}
 use Rattle.search.specs.Held.{Alike, tryOf}
@@ -94,7 +93,7 @@ module _ {s : Shape} (o : Walkable s) (c : Costs) where
 -- in the terms of the code
 pub try-alike : {b : List ℤ} → Study b → (budget t a total : ℕ) (x y : List ℕ) → t < trains b → length x ≡ maxTrains → Alike t (trains b) x y
     → (w : Walk) → tryOf b budget t total x a w ≡ tryOf b budget t total y a w
-unfolding tryOf shapeOf
+unfolding tryOf
 try-alike {b} s budget t a total x y h l p w =
     let q = alike-next a h (omega (arith, l, trains-range s)) p in
     λ i. oneTry budget total (λ u. opened-alike (study-walkable s) (heldCosts b) budget (trains b - (t + 1)) (t + 1) total (set x t a) (set y t a) (omega arith) (length-set x t a ∙ l) q u i) w

@@ -12,12 +12,12 @@ use lib.IntN.{ℤ}
 use lib.ListN.{length, set}
 use lib.Seq.{getD-set-same}
 use borrow.Author.Tests.{ne-eqb}
+use Rattle.theory.proofs.Sum.{sum-cong}
 use Rattle.tables.specs.Block.{maxTrains, trains, pairs, constant, size, first, second, heldChoice, heldEntry}
 use Rattle.tables.specs.WellFormed.{Study}
-use Rattle.tables.specs.Plans.{shapeOf, heldCosts}
-use Rattle.tables.proofs.Sum.{sum-cong}
+use Rattle.tables.specs.Plans.{shapeOf, heldCosts, choicesOf}
 use Rattle.tables.proofs.Study.{trains-range, first-below-second}
-use Rattle.rows.specs.Added.{choicesOf, rowAdded, sumBelow}
+use Rattle.rows.specs.Added.{rowAdded, sumBelow}
 use Rattle.rows.proofs.Written.{kept}
 use Rattle.search.specs.declared.walk.Walk.{Walk}
 use Rattle.search.specs.Walk.{pairAdded, added, counted, markedSpent, wholePlan, dropped, oneTry, openedTrain, noChoices, nothingTried, walked, searched}
@@ -29,7 +29,7 @@ use Rattle.search.proofs.Tries.{one-less}
 -- what choice a of train t adds is its sum over all pairs: a pair's first train was decided before
 pub added-row : {b : List ℤ} → Study b → (t a : ℕ) (chosen : List ℕ) → t < trains b → length chosen ≡ maxTrains
     → added (shapeOf b) (heldCosts b) (choicesOf (set chosen t a)) t ≡ sumBelow b (choicesOf chosen) t a (pairs b)
-unfolding added shapeOf heldCosts
+unfolding added heldCosts
 added-row {b} s t a chosen h l = ap₂ _+_ (ap (heldChoice b t) here) (sum-cong (pairs b) _ _ at-pair)
   where
     here : choicesOf (set chosen t a) t ≡ a
@@ -51,12 +51,12 @@ module _ (b : List ℤ) (budget : ℕ) where
 
   pub opens : (u partial : ℕ) (chosen : List ℕ) (w : Walk) → u < trains b
       → openedTrain (shapeOf b) (heldCosts b) budget (trains b - u) u partial chosen w ≡ choicesFrom b budget u 0 partial chosen w
-  unfolding openedTrain tryOf shapeOf
+  unfolding openedTrain tryOf
   opens u partial chosen w h = rw (one-less u (trains b) h) (let z : size b u - 0 ≡ size b u = omega arith in rw z)
 
   -- the first train
   pub starts : {partial : ℕ} {w : Walk} → 0 < trains b → partial ≡ constant b → w ≡ nothingTried → searched b budget ≡ choicesFrom b budget 0 0 partial noChoices w
-  unfolding searched walked shapeOf heldCosts
+  unfolding searched walked heldCosts
   starts {partial} {w} h e f =
       rw (sub-zero (trains b)) at (opens 0 (constant b) noChoices nothingTried h)
       ∙ ap₂ (λ (p : ℕ) (v : Walk). choicesFrom b budget 0 0 p noChoices v) (sym e) (sym f)

@@ -10,17 +10,16 @@ use lib.ListN.{getD, set}
 use borrow.Author.Tests.{lt-ltb, le-leb, lt-leb, eq-eqb, ne-eqb}
 use Rattle.units.specs.Units.{theParts}
 use Rattle.tables.specs.Block.{maxChoices, trains, size}
-use Rattle.tables.specs.Plans.{shapeOf, heldCosts}
+use Rattle.tables.specs.Plans.{choicesOf, heldCosts}
 use Rattle.tables.proofs.Study.{trains-range, pairs-range}
-use Rattle.rows.specs.Added.{choicesOf}
 use Rattle.rows.specs.Sums.{Steady, Carrying, Sums}
-use Rattle.search.specs.declared.walk.Walk.{Walk}
-use Rattle.search.specs.Walk.{counted, wholePlan, dropped, noChoices, nothingTried}
-use Rattle.search.specs.Held.{unknown, walkOf, Alike, At, Trying, comesTo, tryOf, choicesFrom}
 use Rattle.rows.specs.Links.{sumsLength}
 use Rattle.rows.specs.Table.{endsFrom, trainsPlace, beginOf}
 use Rattle.rows.proofs.Rows.{steady-refl, summed-cong, summed-steady, end-sum, end-low}
 use Rattle.rows.proofs.Written.{kept}
+use Rattle.search.specs.declared.walk.Walk.{Walk}
+use Rattle.search.specs.Walk.{counted, wholePlan, dropped, noChoices, nothingTried}
+use Rattle.search.specs.Held.{unknown, walkOf, Alike, At, Trying, comesTo, tryOf, choicesFrom}
 use Rattle.search.proofs.Totals.{decided-next}
 use Rattle.search.proofs.Room.{decided-low, comes-low}
 use Rattle.search.proofs.Alike.{alike-next, try-alike, decided-alike}
@@ -96,7 +95,6 @@ held-start budget = same-tries (budget - (budget + 1 - 1)) 0 (eqb (budget + 1) 0
 -- ---- where a try stands
 
 pub trying-low : {b : List ℤ} {l q : List ℕ} {t a total : ℕ} {chosen : List ℕ} → Trying b l q t a total chosen → total < unknown
-unfolding shapeOf
 trying-low {b} {l} {q} {t} {a} {total} {chosen} p =
     omega (arith, decided-low (study-walkable (p .study)) (study-limited (p .study)) (t + 1) total (set chosen t a) (omega (arith, p .train)) (p .decided), trains-range (p .study), p .train)
 
@@ -104,7 +102,6 @@ module _ {b : List ℤ} {l q r : List ℕ} {t partial a sum : ℕ} {x y : List �
     (k : Alike t (getD l trainsPlace 0) x y) (u : Steady (beginOf l t) q r) where
   -- the choices and the rows of the trains left may be any
   pub trying-at : Trying b l r t a sum y
-  unfolding shapeOf
   trying-at =
       let g = alike-next a (p .train) (omega (arith, p .train, trains-range (p .study), p .decided .whole)) (rw (p .laid .n) at k) in
       record {
@@ -145,7 +142,6 @@ at-sums p r = record { whole = r .whole; each = λ a h. r .each a h ∙ at-row p
 -- and it fits a number of 64 bits
 pub at-room : {b : List ℤ} {l q r : List ℕ} {t partial : ℕ} {x : List ℕ} → At b l q t partial x → Steady (beginOf l t) q r → (a : ℕ) → a < maxChoices
     → partial + getD r (getD l (endsFrom + t) 0 + a) 0 < 2 ^ 63
-unfolding shapeOf
 at-room {b} {l} {q} {r} {t} {partial} {x} p u a h =
     omega (arith, at-row p u a h, comes-low (study-walkable (p .study)) (study-limited (p .study)) t a partial x (p .train) h (p .decided))
 
@@ -157,7 +153,6 @@ at-place {b} {l} {q} {t} {partial} {x} p =
 
 -- a choice that is written, before it is carried
 pub carrying-at : {b : List ℤ} {l q : List ℕ} {t a total : ℕ} {x : List ℕ} → Trying b l q t a total x → Carrying b l q t (set x t a)
-unfolding shapeOf
 carrying-at {b} {l} {q} {t} {a} {total} {x} p =
     record {
       study = p .study;

@@ -7,10 +7,9 @@ use native.Mathlib.Decide.{ℕ-discrete}
 use native.Mathlib.Omega.{arith}
 use lib.ListN.{length, set}
 use borrow.Author.Tests.{eq-eqb, ne-eqb}
+use Rattle.theory.proofs.Sum.{sum-most}
 use Rattle.tables.specs.Block.{maxChoices, maxPairs, maxParts}
-use Rattle.tables.specs.Plans.{Shape, Costs}
-use Rattle.tables.proofs.Sum.{sum-most}
-use Rattle.rows.specs.Added.{choicesOf}
+use Rattle.tables.specs.Plans.{Shape, Costs, choicesOf}
 use Rattle.rows.proofs.Written.{written}
 use Rattle.search.specs.Walk.{pairAdded, added, partialTotal, Decided}
 use Rattle.search.proofs.Totals.{Walkable}

@@ -15,11 +15,10 @@ use Rattle.search.proofs.Room.{Limited}
 
 module _ {b : List ℤ} (s : Study b) where
   pub study-walkable : Walkable (shapeOf b)
-  unfolding shapeOf
   study-walkable = record { shaped = study-shaped s; room = trains-range s .1 }
 
   pub study-limited : Limited (shapeOf b) (heldCosts b)
-  unfolding shapeOf heldCosts
+  unfolding heldCosts
   study-limited =
       record {
         constant = constant-range s;

@@ -9,12 +9,11 @@ use native.Mathlib.Omega.{arith}
 use lib.Dec.{eqb}
 use lib.ListN.{length, set, length-set}
 use borrow.Author.Tests.{ne-eqb}
-use Rattle.tables.specs.Sum.{sum}
+use Rattle.theory.specs.Sum.{sum}
+use Rattle.theory.proofs.Sum.{sum-none, sum-more, sum-cong, sum-add, sum-swap, sum-pick}
 use Rattle.tables.specs.Block.{maxTrains}
-use Rattle.tables.specs.Plans.{Shape, Costs, choiceTotal, pairTotal, total}
-use Rattle.tables.proofs.Sum.{sum-none, sum-more, sum-cong, sum-add, sum-swap, sum-pick}
+use Rattle.tables.specs.Plans.{Shape, Costs, choiceTotal, pairTotal, total, choicesOf}
 use Rattle.tables.proofs.Plans.{Shaped}
-use Rattle.rows.specs.Added.{choicesOf}
 use Rattle.rows.proofs.Written.{written, kept}
 use Rattle.search.specs.Walk.{pairAdded, added, partialTotal, Decided, noChoices}
 

@@ -9,12 +9,11 @@ use lib.ListN.{length, getD, set}
 use Rattle.units.specs.Units.{theParts}
 use Rattle.tables.specs.Block.{trains, size}
 use Rattle.tables.specs.WellFormed.{Study}
-use Rattle.tables.specs.Plans.{shapeOf, heldCosts}
-use Rattle.rows.specs.Added.{choicesOf}
-use Rattle.search.specs.declared.walk.Walk.{Walk}
-use Rattle.search.specs.Walk.{added, Decided, oneTry, triedFrom, openedTrain}
+use Rattle.tables.specs.Plans.{choicesOf, shapeOf, heldCosts}
 use Rattle.rows.specs.Table.{trainsPlace, beginOf, Laid}
 use Rattle.rows.specs.Sums.{Summed, Steady}
+use Rattle.search.specs.declared.walk.Walk.{Walk}
+use Rattle.search.specs.Walk.{added, Decided, oneTry, triedFrom, openedTrain}
 
 -- ---- a walk by the numbers that are held
 

@@ -6,11 +6,10 @@ use Prim.Native.Nat.{ℕ, zero, suc, _+_, _*_, _<_}
 use lib.Dec.{leb, eqb}
 use lib.IntN.{ℤ}
 use lib.ListN.{length, set, replicate}
+use Rattle.theory.specs.Sum.{sum}
 use Rattle.units.specs.Units.{theParts}
-use Rattle.tables.specs.Sum.{sum}
 use Rattle.tables.specs.Block.{maxTrains}
-use Rattle.tables.specs.Plans.{Shape, Costs, shapeOf, heldCosts}
-use Rattle.rows.specs.Added.{choicesOf}
+use Rattle.tables.specs.Plans.{choicesOf, Shape, Costs, shapeOf, heldCosts}
 use Rattle.search.specs.declared.walk.Walk.{Walk}
 
 -- ---- totals

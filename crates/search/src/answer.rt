@@ -3,7 +3,7 @@ ghost use mathlib.Core.Path.{_≡_};
 ghost use Prim.Native.Nat.{_≤_, _<_, _^_};
 ghost use Rattle.units.specs.Units.{Sound, published};
 ghost use Rattle.tables.specs.WellFormed.{Study};
-ghost use Rattle.tables.specs.Ranges.{maxBudget};
+ghost use Rattle.tables.specs.LineLimits.{maxBudget};
 ghost use Rattle.search.specs.Walk.{searched};
 ghost use Rattle.search.specs.Answer.{searchAnswer};
 use crate::walk;
@@ -16,11 +16,11 @@ use units::Parts;
 use units::Points;
 use units::Scale;
 
-// What a search answers: whether the walk ended or was spent, its tries, and the best plan where one is known, with its total and its cost.
+// What a search answers: whether the walk ended or was spent, its tries, and the best plan where one was found, with its total and its cost.
 pub struct Found {
     pub ended: bool,
     pub count: u64,
-    pub known: bool,
+    pub found: bool,
     pub total: Parts,
     pub cost: Points,
     pub plan: [u8; Block::TRAINS],
@@ -71,7 +71,7 @@ pub fn search(block: &[i64], budget: u64) -> Found
     Found {
         ended: !w.spent,
         count: w.count,
-        known: w.found,
+        found: w.found,
         total,
         cost,
         plan,

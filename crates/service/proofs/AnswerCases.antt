@@ -8,9 +8,9 @@ use lib.Dec.{ltb}
 use lib.IntN.{ℤ}
 use lib.ListN.{length}
 use borrow.Author.Tests.{ltb-true, ltb-false}
+use Rattle.refusals.specs.declared.Refusal.the-variants.{Malformed}
 use Rattle.tables.specs.WellFormed.{wellFormed}
-use Rattle.lines.specs.declared.refusal.Refusal.the-variants.{Malformed}
-use Rattle.replies.specs.Wrote.{longestFixed}
+use Rattle.replies.specs.Replies.{longestFixed}
 use Rattle.requests.specs.Answer.{Answer, answered, declined, lineAnswer}
 use Rattle.service.specs.Answer.{minBuffer, answer}
 

@@ -6,9 +6,9 @@ use Prim.Native.Nat.{ℕ, _<_, _≤_}
 use lib.IntN.{ℤ}
 use lib.ListN.{length}
 use borrow.Author.Tests.{le-ltb}
+use Rattle.refusals.specs.declared.Refusal.the-variants.{Malformed}
 use Rattle.tables.specs.WellFormed.{wellFormed}
 use Rattle.frames.specs.Frames.{maxCharacters}
-use Rattle.lines.specs.declared.refusal.Refusal.the-variants.{Malformed}
 use Rattle.requests.specs.Answer.{declined, lineAnswer}
 use Rattle.requests.proofs.LineCases.{room-apart, long-line}
 use Rattle.service.specs.Answer.{minBuffer, answer}

@@ -7,12 +7,12 @@ use native.Mathlib.Omega.{arith}
 use lib.IntN.{ℤ}
 use lib.ListN.{length}
 use borrow.Author.Tests.{lt-ltb, le-ltb}
+use Rattle.refusals.specs.declared.Refusal.the-variants.{Malformed}
 use Rattle.tables.specs.WellFormed.{wellFormed}
-use Rattle.lines.specs.declared.refusal.Refusal.the-variants.{Malformed}
 use Rattle.replies.specs.Replies.{refusalReply}
 use Rattle.replies.specs.Wrote.{Wrote}
 use Rattle.replies.proofs.Writing.{wrote-none}
-use Rattle.replies.proofs.ReplyFields.{refusal-length}
+use Rattle.replies.proofs.Lengths.{refusal-length}
 use Rattle.requests.specs.Answer.{lineAnswer}
 use Rattle.requests.specs.Wrote.{Answers}
 use Rattle.requests.proofs.LineCases.{line-short}

@@ -5,8 +5,8 @@ use Prim.Native.Nat.{ℕ}
 use lib.Dec.{ltb}
 use lib.IntN.{ℤ}
 use lib.ListN.{length}
+use Rattle.refusals.specs.declared.Refusal.the-variants.{Malformed}
 use Rattle.tables.specs.WellFormed.{wellFormed}
-use Rattle.lines.specs.declared.refusal.Refusal.the-variants.{Malformed}
 use Rattle.requests.specs.Answer.{Answer, answered, declined, lineAnswer}
 
 -- 17: 'reply buffer below 72 bytes'

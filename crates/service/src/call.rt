@@ -2,7 +2,7 @@
 ghost use mathlib.Core.Path.{_≡_};
 ghost use Rattle.requests.specs.Wrote.{Answers};
 ghost use Rattle.service.specs.Answer.{answer};
-use lines::refusal::Refusal;
+use refusals::Refusal;
 use replies::replies::write_refusal;
 use requests::line;
 use tables::block::Block;

@@ -6,24 +6,26 @@ use mathlib.Core.Logic.{_↔_}
 use Prim.Native.Nat.{ℕ, _+_, _<_}
 use native.Mathlib.Omega.{arith}
 use lib.IntN.{ℤ, pos, _+ℤ_, _-ℤ_}
+use Rattle.theory.specs.Whole.{sumℤ}
+use Rattle.theory.specs.Fold.{iter}
+use Rattle.refusals.specs.declared.Refusal.the-variants.{PartsOutside}
+use Rattle.refusals.specs.declared.Verdict.the-variants.{Fine, Declined}
 use Rattle.tables.specs.Block.{constantPlace, heldChoicePlace, heldEntryPlace, at, figure, trains, pairs, size, first, second}
-use Rattle.tables.specs.Runs.{movesBefore}
+use Rattle.tables.specs.Plans.{shapeOf}
+use Rattle.tables.specs.Counts.{movesBefore, moveCount}
 use Rattle.tables.specs.WellFormed.{Study}
+use Rattle.tables.proofs.Counting.{moves-part}
 use Rattle.tables.proofs.Study.{SameShape, same-pairs, first-below-second}
-use Rattle.operations.specs.declared.outcome.Outcome.the-variants.{Done, PartsOutside}
-use Rattle.operations.specs.Fold.{iter}
 use Rattle.rewriting.specs.declared.sides.Side.the-variants.{Rows, Columns}
-use Rattle.rewriting.specs.Whole.{sumℤ}
 use Rattle.rewriting.specs.Moves.{ShapeInRange}
 use Rattle.rewriting.specs.Ends.{endsOf, SameEnds, Outside, SomeEnd}
-use Rattle.rewriting.proofs.Shape.{study-figure, study-shape-in-range, study-non-empty, shape-same, same-lanes}
+use Rattle.rewriting.proofs.Shape.{study-figure, study-shape-in-range, shape-same, same-lanes}
 use Rattle.rewriting.proofs.Turns.{pairTurned, trains-shape, trains-constant, trains-choice, trains-high, pairs-constant, pairs-choice, pairs-entry}
-use Rattle.rewriting.proofs.Reach.{Unmet, moved-unmet}
 use Rattle.rewriting.proofs.Judged.{done-unless, judged-outside, judged-ends}
 use Rattle.shift.specs.Shift.{lifted, lanesShifted, pairShifted, shifted, shiftOutcome, shiftBlock}
 use Rattle.shift.specs.Equations.{rowMove, columnMove, movesOf, shiftEnds}
-use Rattle.shift.proofs.Rooms.{same-start, start-within}
-use Rattle.shift.proofs.Ends.{shift-same-shape, shift-chain}
+use Rattle.shift.proofs.Rooms.{same-start}
+use Rattle.shift.proofs.Ends.{shift-rewrites}
 
 module _ {b : List ℤ} (o : Study b) (lifts moves : List ℤ) where
   s : ShapeInRange b
@@ -41,7 +43,7 @@ module _ {b : List ℤ} (o : Study b) (lifts moves : List ℤ) where
 
   -- the turn of pair k, which finds the shape of b
   abbrev turn : ℕ → List ℤ → List ℤ
-  turn k = pairShifted moves (movesBefore c k) k
+  turn k = pairShifted moves (movesBefore (shapeOf c) k) k
 
   abbrev row : ℕ → ℕ → List ℤ → ℤ
   row k a z = rowMove (at moves) b k a
@@ -66,12 +68,12 @@ module _ {b : List ℤ} (o : Study b) (lifts moves : List ℤ) where
   natural p = study-figure o p .0
 
   -- u and p are the lifts and the moves, as far as the trains and pairs of b go
-  module _ (u p : ℕ → ℤ) (lifts-are : (i : ℕ) → i < trains b → at lifts i ≡ u i) (moves-are : (n : ℕ) → n < movesBefore b (pairs b) → at moves n ≡ p n) where
+  module _ (u p : ℕ → ℤ) (lifts-are : (i : ℕ) → i < trains b → at lifts i ≡ u i) (moves-are : (n : ℕ) → n < moveCount (shapeOf b) → at moves n ≡ p n) where
     row-is : (k a : ℕ) → k < pairs b → a < size b (first b k) → rowMove (at moves) b k a ≡ rowMove p b k a
-    row-is k a h q = moves-are (movesBefore b k + a) (omega (arith, start-within b k (pairs b) h))
+    row-is k a h q = moves-are (movesBefore (shapeOf b) k + a) (omega (arith, moves-part (shapeOf b) k (pairs b) h))
 
     column-is : (k d : ℕ) → k < pairs b → d < size b (second b k) → columnMove (at moves) b k d ≡ columnMove p b k d
-    column-is k d h q = moves-are (movesBefore b k + size b (first b k) + d) (omega (arith, start-within b k (pairs b) h))
+    column-is k d h q = moves-are (movesBefore (shapeOf b) k + size b (first b k) + d) (omega (arith, moves-part (shapeOf b) k (pairs b) h))
 
     -- the three equations, of the end before it is judged
     pub shifted-ends : SameEnds b (endsOf (shifted lifts moves b)) (shiftEnds u p b)
@@ -89,17 +91,14 @@ module _ {b : List ℤ} (o : Study b) (lifts moves : List ℤ) where
               (trains-high s lift b (shape-same b) (heldEntryPlace k a d) (omega arith) ∙ natural (heldEntryPlace k a d)));
         }
 
-    unmet : (n : ℕ) → Unmet b n → at (shifted lifts moves b) n ≡ at b n
-    unmet n m = moved-unmet (study-non-empty o) m (shift-chain o lifts moves)
-
     -- 12, 'c0 or an entry would end below 0 or above L': exactly then. Not below 0, of choices and entries, are the two conditions of Theorem 4.2
-    pub shift-declined : (shiftOutcome lifts moves b ≡ PartsOutside) ↔ SomeEnd Outside b (shiftEnds u p b)
-    shift-declined = judged-outside o (shifted lifts moves b) (shift-same-shape o lifts moves) unmet (shiftEnds u p b) shifted-ends
+    pub shift-declined : (shiftOutcome lifts moves b ≡ Declined PartsOutside) ↔ SomeEnd Outside b (shiftEnds u p b)
+    shift-declined = judged-outside o (shift-rewrites o lifts moves) (shiftEnds u p b) shifted-ends
 
     -- and accepted exactly where none does
-    pub shift-accepted : (shiftOutcome lifts moves b ≡ Done) ↔ (SomeEnd Outside b (shiftEnds u p b) → ⊥)
+    pub shift-accepted : (shiftOutcome lifts moves b ≡ Fine) ↔ (SomeEnd Outside b (shiftEnds u p b) → ⊥)
     shift-accepted = done-unless (shifted lifts moves b) shift-declined
 
     -- the three equations, of the accepted block
-    pub shift-ends : shiftOutcome lifts moves b ≡ Done → SameEnds b (endsOf (shiftBlock lifts moves b)) (shiftEnds u p b)
-    shift-ends = judged-ends o (shifted lifts moves b) (shift-same-shape o lifts moves) unmet (shiftEnds u p b) shifted-ends
+    pub shift-ends : shiftOutcome lifts moves b ≡ Fine → SameEnds b (endsOf (shiftBlock lifts moves b)) (shiftEnds u p b)
+    shift-ends = judged-ends o (shift-rewrites o lifts moves) (shiftEnds u p b) shifted-ends

@@ -1,18 +1,17 @@
 -- A shift is a chain of moves, and what they leave is not far from 0.
-use mathlib.Core.Path.{_≡_, _∙_}
+use mathlib.Core.Path.{_≡_, ap, _∙_}
 use mathlib.Core.List.{List}
-use Prim.Native.Nat.{ℕ, zero, suc, _+_, _*_, _-_, _<_, _≤_}
-use native.Mathlib.Nat.{add-zero}
+use Prim.Native.Nat.{ℕ, _+_, _*_, _<_, _≤_}
 use native.Mathlib.Omega.{arith}
 use lib.IntN.{ℤ}
 use lib.Signed.{mag}
-use Rattle.tables.specs.Sum.{sum}
-use Rattle.tables.specs.Block.{maxPairs, at, trains, pairs, size, first, second}
-use Rattle.tables.specs.Ranges.{maxMove}
-use Rattle.tables.specs.Runs.{movesBefore}
-use Rattle.tables.proofs.Sum.{sum-more, sum-cong}
+use Rattle.theory.specs.Fold.{iter}
+use Rattle.theory.proofs.Sum.{sum-cong}
+use Rattle.tables.specs.Block.{maxPairs, at, trains, pairs, size, first}
+use Rattle.tables.specs.LineLimits.{maxMove}
+use Rattle.tables.specs.Plans.{shapeOf}
+use Rattle.tables.specs.Counts.{pairMoves, movesBefore, moveCount}
 use Rattle.tables.proofs.Study.{SameShape, same-pairs}
-use Rattle.operations.specs.Fold.{iter}
 use Rattle.rewriting.specs.declared.sides.PlaceRun.{PlaceRun}
 use Rattle.rewriting.specs.declared.sides.Side.{Side}
 use Rattle.rewriting.specs.declared.sides.Side.the-variants.{Rows, Columns}
@@ -69,20 +68,13 @@ pub pair-by : (moves : List ℤ) (start k : ℕ) (b : List ℤ) {n : ℕ} {c d :
 unfolding pairShifted
 pair-by moves start k b p q r = r ∙ rw (p, q)
 
--- the moves of the pairs so far are moves of all
-pub start-within : (b : List ℤ) (k m : ℕ) → k < m → movesBefore b k + (size b (first b k) + size b (second b k)) ≤ movesBefore b m
-start-within b k m h = let e : m ≡ (k + 1) + (m - (k + 1)) = omega arith in rw e (omega (arith, sum-more k (λ l. size b (first b l) + size b (second b l)), front (k + 1) (m - (k + 1))))
-  where
-    front : (n d : ℕ) → sum n (λ l. size b (first b l) + size b (second b l)) ≤ sum (n + d) (λ l. size b (first b l) + size b (second b l))
-    front n zero = rw add-zero (omega arith)
-    front n (suc d) =
-        let e : n + suc d ≡ (n + d) + 1 = omega arith in
-        rw e (omega (arith, front n d, sum-more (n + d) (λ l. size b (first b l) + size b (second b l))))
-
-pub same-start : {b c : List ℤ} → SameShape b c → ShapeInRange b → (k : ℕ) → k ≤ maxPairs → movesBefore c k ≡ movesBefore b k
+pub same-start : {b c : List ℤ} → SameShape b c → ShapeInRange b → (k : ℕ) → k ≤ maxPairs → movesBefore (shapeOf c) k ≡ movesBefore (shapeOf b) k
 same-start {b} {c} e s k h =
-    sum-cong k (λ l. size c (first c l) + size c (second c l)) (λ l. size b (first b l) + size b (second b l))
+    sum-cong k (pairMoves (shapeOf c)) (pairMoves (shapeOf b))
     (λ l q. omega (arith, same-lanes e s l (omega arith) Rows, same-lanes e s l (omega arith) Columns))
+
+pub same-count : {b c : List ℤ} → SameShape b c → ShapeInRange b → moveCount (shapeOf c) ≡ moveCount (shapeOf b)
+same-count {b} {c} e s = ap (movesBefore (shapeOf c)) (same-pairs e) ∙ same-start e s (pairs b) (s .pairs)
 
 -- a shift by its calls, of which the first copies the block
 pub shifted-by : (lifts moves b : List ℤ) {t l p : List ℤ} → t ≡ b → l ≡ lifted lifts t → p ≡ pairsShifted moves l → p ≡ shifted lifts moves b
@@ -98,4 +90,4 @@ shift-moved {R} {b} s lifts moves q r =
     let w = lifts-moved s lifts q (trains b) 0 b (omega arith) none in
     let e = same-pairs (moved-shape s w) in
     moved-more (omega (arith, s .trains, s .pairs))
-    (pairs-shifted s moves r (movesBefore (lifted lifts b)) (pairs (lifted lifts b)) (0 + trains b) (lifted lifts b) (omega arith) w)
+    (pairs-shifted s moves r (movesBefore (shapeOf (lifted lifts b))) (pairs (lifted lifts b)) (0 + trains b) (lifted lifts b) (omega arith) w)

@@ -3,17 +3,18 @@
 use mathlib.Core.List.{List}
 use Prim.Native.Nat.{ℕ, _+_}
 use lib.IntN.{ℤ, pos, _+ℤ_, _-ℤ_}
-use Rattle.tables.specs.Runs.{movesBefore}
+use Rattle.theory.specs.Whole.{sumℤ}
+use Rattle.tables.specs.Plans.{shapeOf}
+use Rattle.tables.specs.Counts.{movesBefore}
 use Rattle.tables.specs.Block.{trains, pairs, size, first, constant, heldChoice, heldEntry}
-use Rattle.rewriting.specs.Whole.{sumℤ, ofPair}
-use Rattle.rewriting.specs.Ends.{Ends}
+use Rattle.rewriting.specs.Ends.{ofPair, Ends}
 
 -- p_i,a of pair k, and its p_j,b
 abbrev pub rowMove : (ℕ → ℤ) → List ℤ → ℕ → ℕ → ℤ
-rowMove p b k a = p (movesBefore b k + a)
+rowMove p b k a = p (movesBefore (shapeOf b) k + a)
 
 abbrev pub columnMove : (ℕ → ℤ) → List ℤ → ℕ → ℕ → ℤ
-columnMove p b k c = p (movesBefore b k + size b (first b k) + c)
+columnMove p b k c = p (movesBefore (shapeOf b) k + size b (first b k) + c)
 
 -- 'all moves of train i, choice a': of each pair that has the train
 abbrev pub movesOf : (ℕ → ℤ) → List ℤ → ℕ → ℕ → ℤ

@@ -3,11 +3,12 @@ use mathlib.Core.List.{List}
 use Prim.Native.Nat.{ℕ, _+_, _≤_}
 use lib.IntN.{ℤ}
 use lib.Signed.{mag}
-use Rattle.tables.specs.Runs.{movesBefore}
-use Rattle.tables.specs.Ranges.{maxMove}
+use Rattle.theory.specs.Fold.{iter}
+use Rattle.refusals.specs.declared.Verdict.{Verdict}
+use Rattle.tables.specs.LineLimits.{maxMove}
+use Rattle.tables.specs.Plans.{shapeOf}
+use Rattle.tables.specs.Counts.{movesBefore}
 use Rattle.tables.specs.Block.{at, trains, pairs, size, first}
-use Rattle.operations.specs.declared.outcome.Outcome.{Outcome}
-use Rattle.operations.specs.Fold.{iter}
 use Rattle.rewriting.specs.declared.sides.Side.{Side}
 use Rattle.rewriting.specs.declared.sides.Side.the-variants.{Rows, Columns}
 use Rattle.rewriting.specs.Judged.{judged, judgedBlock}
@@ -31,13 +32,13 @@ pairShifted moves start k b = lanesShifted Columns moves (start + size b (first 
 
 -- all pairs of the block, whose moves begin where the shape of b says
 abbrev pub pairsShifted : List ℤ → List ℤ → List ℤ
-pairsShifted moves b = iter (pairs b) (λ k. pairShifted moves (movesBefore b k) k) b
+pairsShifted moves b = iter (pairs b) (λ k. pairShifted moves (movesBefore (shapeOf b) k) k) b
 
 -- where a shift ends
 unfoldable pub shifted : List ℤ → List ℤ → List ℤ → List ℤ
 shifted lifts moves b = pairsShifted moves (lifted lifts b)
 
-abbrev pub shiftOutcome : List ℤ → List ℤ → List ℤ → Outcome
+abbrev pub shiftOutcome : List ℤ → List ℤ → List ℤ → Verdict
 shiftOutcome lifts moves b = judged (shifted lifts moves b)
 
 abbrev pub shiftBlock : List ℤ → List ℤ → List ℤ → List ℤ

@@ -2,12 +2,13 @@
 ghost use mathlib.Core.Path.{_≡_};
 ghost use Prim.Native.Nat.{_+_, _<_, _≤_, _^_};
 ghost use lib.ListN.{length};
-ghost use Rattle.tables.specs.Block.{maxParts, trains, pairs, size, first, second};
+ghost use Rattle.tables.specs.Block.{maxParts, trains, pairs, size};
 ghost use Rattle.tables.specs.WellFormed.{Study};
-ghost use Rattle.tables.specs.Runs.{movesBefore};
+ghost use Rattle.tables.specs.Plans.{shapeOf};
+ghost use Rattle.tables.specs.Counts.{pairMoves, moveCount};
 ghost use Rattle.rewriting.specs.Moves.{Room, ShapeInRange, laneTrain};
 ghost use Rattle.shift.specs.Shift.{SmallMoves, lifted, lanesShifted, pairShifted, pairsShifted, shiftOutcome, shiftBlock};
-use operations::outcome::Outcome;
+use refusals::Verdict;
 use rewriting::judging;
 use rewriting::moves;
 use rewriting::sides;
@@ -16,8 +17,8 @@ use tables::block;
 use tables::block::Block;
 
 // Shifts the held costs by the lifts, one for each train, and the moves: of each pair those of its first train, then those of its second.
-pub fn shift(block: &mut [i64], lifts: &[i64], moves: &[i64]) -> Outcome
-    requires { ⌜ (Study (now block)) × (length (now lifts) ≡ trains (now block)) × (length (now moves) ≡ movesBefore (now block) (pairs (now block))) ⌝ }
+pub fn shift(block: &mut [i64], lifts: &[i64], moves: &[i64]) -> Verdict
+    requires { ⌜ (Study (now block)) × (length (now lifts) ≡ trains (now block)) × (length (now moves) ≡ moveCount (shapeOf (now block))) ⌝ }
     requires { ⌜ (SmallMoves (now lifts)) × (SmallMoves (now moves)) ⌝ }
     ensures { λ r. ⌜ r ≡ shiftOutcome (now (lifts .entry)) (now (moves .entry)) (now (block .entry)) ⌝ }
     ensures { λ r. ⌜ now (block .exit) ≡ shiftBlock (now (lifts .entry)) (now (moves .entry)) (now (block .entry)) ⌝ }
@@ -44,7 +45,7 @@ fn lift_trains(b: &mut [i64], lifts: &[i64])
 
 // Makes the moves of every pair.
 fn shift_pairs(b: &mut [i64], moves: &[i64])
-    requires { ⌜ (ShapeInRange (now b)) × (Room (now b) (2 ^ 48)) × (length (now moves) ≡ movesBefore (now b) (pairs (now b))) × (SmallMoves (now moves)) ⌝ }
+    requires { ⌜ (ShapeInRange (now b)) × (Room (now b) (2 ^ 48)) × (length (now moves) ≡ moveCount (shapeOf (now b))) × (SmallMoves (now moves)) ⌝ }
     ensures { λ _. ⌜ now (b .exit) ≡ pairsShifted (now (moves .entry)) (now (b .entry)) ⌝ }
 {
     let m = block::pairs(b);
@@ -59,8 +60,8 @@ fn shift_pairs(b: &mut [i64], moves: &[i64])
 // Makes the moves of pair k, which begin at `start`. The result is where those of the next pair begin.
 fn shift_pair(b: &mut [i64], moves: &[i64], start: usize, k: usize) -> usize
     requires { ⌜ (ShapeInRange (now b)) × (Room (now b) (2 ^ 52)) × (k < pairs (now b)) × (SmallMoves (now moves)) ⌝ }
-    requires { ⌜ start + size (now b) (first (now b) k) + size (now b) (second (now b) k) ≤ length (now moves) ⌝ }
-    ensures { λ r. ⌜ (r ≡ start + (size (now (b .entry)) (first (now (b .entry)) k) + size (now (b .entry)) (second (now (b .entry)) k))) × (now (b .exit) ≡ pairShifted (now (moves .entry)) start k (now (b .entry))) ⌝ }
+    requires { ⌜ start + pairMoves (shapeOf (now b)) k ≤ length (now moves) ⌝ }
+    ensures { λ r. ⌜ (r ≡ start + pairMoves (shapeOf (now (b .entry))) k) × (now (b .exit) ≡ pairShifted (now (moves .entry)) start k (now (b .entry))) ⌝ }
 {
     let rows = sides::lanes(b, k, Side::Rows);
     let columns = sides::lanes(b, k, Side::Columns);

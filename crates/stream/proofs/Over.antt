@@ -127,17 +127,17 @@ left-of bytes n at h k =
     sym (rw split (drop-at (take at bytes) (take (n - at) (drop at bytes)) at (length-take-le at bytes (omega arith))))
 
 -- the loop stands at byte `at` with n characters kept: what is left of the part comes to the same as the whole part
-pub record Stands (s : Shown) (part line : List ℕ) (b : List ℤ) (n at : ℕ) : Type 0 where
+pub record InPart (s : Shown) (part line : List ℕ) (b : List ℤ) (n at : ℕ) : Type 0 where
   pub within : at ≤ length part
   pub after : AfterParts line b n
   pub lines : overPart (take n line) b (drop at part) .line ≡ s .line
   pub blocks : overPart (take n line) b (drop at part) .block ≡ s .block
 
-pub stands-first : (part line : List ℕ) (b : List ℤ) (n : ℕ) → AfterParts line b n → Stands (overPart (take n line) b part) part line b n 0
-stands-first part line b n m = record { within = omega arith; after = m; lines = refl; blocks = refl }
+pub in-part-first : (part line : List ℕ) (b : List ℤ) (n : ℕ) → AfterParts line b n → InPart (overPart (take n line) b part) part line b n 0
+in-part-first part line b n m = record { within = omega arith; after = m; lines = refl; blocks = refl }
 
 -- the loop stands before byte `at` of the first n bytes of an array, and takes a step on what is left of them
-module _ (bytes : List ℕ) (n : ℕ) (whole : n ≤ length bytes) {s : Shown} {line : List ℕ} {b : List ℤ} {k at : ℕ} (m : Stands s (take n bytes) line b k at) where
+module _ (bytes : List ℕ) (n : ℕ) (whole : n ≤ length bytes) {s : Shown} {line : List ℕ} {b : List ℤ} {k at : ℕ} (m : InPart s (take n bytes) line b k at) where
   module _ (more : at < n) {buffer line′ reply : List ℕ} {b′ : List ℤ} {r : Step} (taken : Steps (nextLine (take k line) b (take (n - at) (drop at bytes))) buffer line′ b′ reply r) where
     count-left : length (drop at (take n bytes)) ≡ n - at
     count-left = length-drop at (take n bytes) ∙ ap (λ x. x - at) (length-take-le n bytes whole)
@@ -154,8 +154,8 @@ module _ (bytes : List ℕ) (n : ℕ) (whole : n ≤ length bytes) {s : Shown} {
     pub used-inside : at + r .used ≤ n
     used-inside = omega (arith, t .used, count-left, used-within (take k line) b (drop at (take n bytes)))
 
-    pub stands-next : Stands s (take n bytes) line′ b′ (r .kept) (at + r .used)
-    stands-next =
+    pub in-part-next : InPart s (take n bytes) line′ b′ (r .kept) (at + r .used)
+    in-part-next =
         let e = over-next (take k line) b (drop at (take n bytes)) some-left in
         record {
           within = omega (arith, used-inside, length-take-le n bytes whole);
@@ -164,8 +164,8 @@ module _ (bytes : List ℕ) (n : ℕ) (whole : n ≤ length bytes) {s : Shown} {
           blocks = rw (t .front, t .printed .block, ← drop-drop (r .used) at (take n bytes), t .used) (ap (λ s. s .block) (sym e) ∙ m .blocks);
         }
 
-  pub stands-last : n ≤ at → Leaves s line b k
+  pub in-part-last : n ≤ at → Leaves s line b k
   unfolding steps overPart
-  stands-last h =
+  in-part-last h =
       let e = drop-of-length-le (take n bytes) {i = at} (omega (arith, length-take-le n bytes whole)) in
       record { within = m .after .leaves .within; front = rw e at (m .lines); left = rw e at (m .blocks) }

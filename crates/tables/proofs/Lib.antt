@@ -1,9 +1,8 @@
 -- The laws of the crate, which callers cite: one file for each idea.
 pub mod Signed
-pub mod Range
-pub mod Sum
 pub mod Limits
 pub mod Rows
 pub mod Study
 pub mod Apart
 pub mod Plans
+pub mod Counting

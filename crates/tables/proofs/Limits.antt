@@ -7,9 +7,9 @@ use native.Mathlib.Omega.{arith}
 use lib.Dec.{leb, ltb}
 use lib.IntN.{ℤ, pos, negsuc}
 use borrow.Author.Tests.{lt-ltb, le-ltb, le-leb, leb-true}
+use Rattle.theory.proofs.Range.{both-true}
 use Rattle.tables.specs.Block.{maxTrains, maxChoices, maxPairs, maxCost, maxParts, sizesFrom, firstsFrom, secondsFrom, loadedChoicesFrom, heldChoicesFrom, loadedEntriesFrom, heldEntriesFrom, entriesOfPair, at, nat, figure, trains, pairs, size, first, second}
-use Rattle.tables.specs.WellFormed.{Limits, from-to, within, usedIf, choiceUsed, entryUsed, headLimits, shapeLimits, costLimits, limitsAt}
-use Rattle.tables.proofs.Range.{both-true}
+use Rattle.tables.specs.WellFormed.{Limits, fromTo, within, usedIf, choiceUsed, entryUsed, headLimits, shapeLimits, costLimits, limitsAt}
 
 -- ---- within
 
@@ -37,23 +37,23 @@ within-pos l n p q = rw (le-leb _ _ p, le-leb _ _ q)
 pub choice-used : (b : List ℤ) (i a : ℕ) → a < maxChoices → choiceUsed b (maxChoices * i + a) ≡ ltb i (trains b) && ltb a (size b i)
 unfolding choiceUsed
 choice-used b i a h =
-    let e : (maxChoices * i + a) / 8 ≡ i = omega arith in
-    let f : (maxChoices * i + a) % 8 ≡ a = omega arith in
+    let e : (maxChoices * i + a) / maxChoices ≡ i = omega arith in
+    let f : (maxChoices * i + a) % maxChoices ≡ a = omega arith in
     rw (e, f)
 
 pub entry-used : (b : List ℤ) (k a c : ℕ) → a < maxChoices → c < maxChoices
     → entryUsed b (entriesOfPair * k + (maxChoices * a + c)) ≡ ltb k (pairs b) && (ltb a (size b (first b k)) && ltb c (size b (second b k)))
 unfolding entryUsed
 entry-used b k a c h q =
-    let e : (entriesOfPair * k + (maxChoices * a + c)) / 64 ≡ k = omega arith in
-    let f : (entriesOfPair * k + (maxChoices * a + c)) % 64 / 8 ≡ a = omega arith in
-    let g : (entriesOfPair * k + (maxChoices * a + c)) % 8 ≡ c = omega arith in
+    let e : (entriesOfPair * k + (maxChoices * a + c)) / entriesOfPair ≡ k = omega arith in
+    let f : (entriesOfPair * k + (maxChoices * a + c)) % entriesOfPair / maxChoices ≡ a = omega arith in
+    let g : (entriesOfPair * k + (maxChoices * a + c)) % maxChoices ≡ c = omega arith in
     rw (e, f, g)
 
 -- no offset is that of a pair that is not there
 pub entry-absent : (b : List ℤ) (k o : ℕ) → pairs b ≤ k → o < entriesOfPair → entryUsed b (entriesOfPair * k + o) ≡ false
 unfolding entryUsed
-entry-absent b k o h q = let e : (entriesOfPair * k + o) / 64 ≡ k = omega arith in rw (e, le-ltb k (pairs b) h)
+entry-absent b k o h q = let e : (entriesOfPair * k + o) / entriesOfPair ≡ k = omega arith in rw (e, le-ltb k (pairs b) h)
 
 -- ---- the limits of each region
 
@@ -62,49 +62,49 @@ module _ (b : List ℤ) where
   unfolding limitsAt shapeLimits
   limits-head p h = rw (lt-ltb p loadedChoicesFrom (omega arith), lt-ltb p sizesFrom h)
 
-  pub limits-size : (i : ℕ) → i < maxTrains → limitsAt b (sizesFrom + i) ≡ usedIf (ltb i (trains b)) (from-to 1 maxChoices)
+  pub limits-size : (i : ℕ) → i < maxTrains → limitsAt b (sizesFrom + i) ≡ usedIf (ltb i (trains b)) (fromTo 1 maxChoices)
   unfolding limitsAt shapeLimits
   limits-size i h =
       let p = sizesFrom + i in
       let e : p - sizesFrom ≡ i = omega arith in
       rw (lt-ltb p loadedChoicesFrom (omega arith), le-ltb p sizesFrom (omega arith), lt-ltb p firstsFrom (omega arith), e)
 
-  pub limits-first : (k : ℕ) → k < maxPairs → limitsAt b (firstsFrom + k) ≡ usedIf (ltb k (pairs b)) (from-to 0 (maxTrains - 1))
+  pub limits-first : (k : ℕ) → k < maxPairs → limitsAt b (firstsFrom + k) ≡ usedIf (ltb k (pairs b)) (fromTo 0 (maxTrains - 1))
   unfolding limitsAt shapeLimits
   limits-first k h =
       let p = firstsFrom + k in
       let e : p - firstsFrom ≡ k = omega arith in
       rw (lt-ltb p loadedChoicesFrom (omega arith), le-ltb p sizesFrom (omega arith), le-ltb p firstsFrom (omega arith), lt-ltb p secondsFrom (omega arith), e)
 
-  pub limits-second : (k : ℕ) → k < maxPairs → limitsAt b (secondsFrom + k) ≡ usedIf (ltb k (pairs b)) (from-to 0 (maxTrains - 1))
+  pub limits-second : (k : ℕ) → k < maxPairs → limitsAt b (secondsFrom + k) ≡ usedIf (ltb k (pairs b)) (fromTo 0 (maxTrains - 1))
   unfolding limitsAt shapeLimits
   limits-second k h =
       let p = secondsFrom + k in
       let e : p - secondsFrom ≡ k = omega arith in
       rw (lt-ltb p loadedChoicesFrom (omega arith), le-ltb p sizesFrom (omega arith), le-ltb p firstsFrom (omega arith), le-ltb p secondsFrom (omega arith), e)
 
-  pub limits-loaded-choices : (o : ℕ) → o < maxTrains * maxChoices → limitsAt b (loadedChoicesFrom + o) ≡ usedIf (choiceUsed b o) (from-to 0 maxCost)
+  pub limits-loaded-choices : (o : ℕ) → o < maxTrains * maxChoices → limitsAt b (loadedChoicesFrom + o) ≡ usedIf (choiceUsed b o) (fromTo 0 maxCost)
   unfolding limitsAt costLimits
   limits-loaded-choices o h =
       let p = loadedChoicesFrom + o in
       let e : p - loadedChoicesFrom ≡ o = omega arith in
       rw (le-ltb p loadedChoicesFrom (omega arith), lt-ltb p heldChoicesFrom (omega arith), e)
 
-  pub limits-held-choices : (o : ℕ) → o < maxTrains * maxChoices → limitsAt b (heldChoicesFrom + o) ≡ usedIf (choiceUsed b o) (from-to 0 maxParts)
+  pub limits-held-choices : (o : ℕ) → o < maxTrains * maxChoices → limitsAt b (heldChoicesFrom + o) ≡ usedIf (choiceUsed b o) (fromTo 0 maxParts)
   unfolding limitsAt costLimits
   limits-held-choices o h =
       let p = heldChoicesFrom + o in
       let e : p - heldChoicesFrom ≡ o = omega arith in
       rw (le-ltb p loadedChoicesFrom (omega arith), le-ltb p heldChoicesFrom (omega arith), lt-ltb p loadedEntriesFrom (omega arith), e)
 
-  pub limits-loaded-entries : (o : ℕ) → o < maxPairs * entriesOfPair → limitsAt b (loadedEntriesFrom + o) ≡ usedIf (entryUsed b o) (from-to 0 maxCost)
+  pub limits-loaded-entries : (o : ℕ) → o < maxPairs * entriesOfPair → limitsAt b (loadedEntriesFrom + o) ≡ usedIf (entryUsed b o) (fromTo 0 maxCost)
   unfolding limitsAt costLimits
   limits-loaded-entries o h =
       let p = loadedEntriesFrom + o in
       let e : p - loadedEntriesFrom ≡ o = omega arith in
       rw (le-ltb p loadedChoicesFrom (omega arith), le-ltb p heldChoicesFrom (omega arith), le-ltb p loadedEntriesFrom (omega arith), lt-ltb p heldEntriesFrom (omega arith), e)
 
-  pub limits-held-entries : (o : ℕ) → limitsAt b (heldEntriesFrom + o) ≡ usedIf (entryUsed b o) (from-to 0 maxParts)
+  pub limits-held-entries : (o : ℕ) → limitsAt b (heldEntriesFrom + o) ≡ usedIf (entryUsed b o) (fromTo 0 maxParts)
   unfolding limitsAt costLimits
   limits-held-entries o =
       let p = heldEntriesFrom + o in

@@ -4,10 +4,10 @@ use mathlib.Core.List.{List}
 use Prim.Native.Nat.{ℕ, _+_, _<_, _≤_}
 use native.Mathlib.Omega.{arith}
 use lib.IntN.{ℤ}
-use Rattle.tables.specs.Sum.{sum}
+use Rattle.theory.specs.Sum.{sum}
+use Rattle.theory.proofs.Sum.{sum-cong, sum-term}
 use Rattle.tables.specs.WellFormed.{Study}
 use Rattle.tables.specs.Plans.{Shape, AlikeShapes, Costs, IsPlan, choiceTotal, pairTotal, total, shapeOf}
-use Rattle.tables.proofs.Sum.{sum-cong, sum-term}
 use Rattle.tables.proofs.Study.{trains-range, pairs-range, size-range, first-below-second, second-below-trains, pairs-apart, SameShape, same-trains, same-pairs, same-size, same-first, same-second}
 
 -- each train has a choice; a pair's trains ascend and are there; no two pairs are alike
@@ -18,7 +18,6 @@ pub record Shaped (s : Shape) : Type 0 where
   pub apart : (k l : ℕ) → k < s .pairs → l < s .pairs → s .first k ≡ s .first l → s .second k ≡ s .second l → k ≡ l
 
 pub study-shaped : {b : List ℤ} → Study b → Shaped (shapeOf b)
-unfolding shapeOf
 study-shaped s =
     record {
       filled = λ i h. size-range s i h .0;
@@ -44,6 +43,18 @@ pub total-cong : (s : Shape) (t u : Costs) (x : ℕ → ℕ) → t .constant ≡
     → total s t x ≡ total s u x
 unfolding total choiceTotal pairTotal
 total-cong s t u x e f g = omega (arith, sum-cong (s .trains) _ _ f, sum-cong (s .pairs) _ _ g)
+
+-- plans that agree on every train cost the same
+pub plan-cong : (s : Shape) (t : Costs) (x y : ℕ → ℕ) → ((i : ℕ) → i < s .trains → x i ≡ y i)
+    → ((j : ℕ) → j < s .pairs → (s .first j < s .trains) × (s .second j < s .trains)) → total s t x ≡ total s t y
+unfolding total choiceTotal pairTotal
+plan-cong s t x y same inside =
+    omega (
+      arith,
+      sum-cong (s .trains) (λ i. t .choice i (x i)) (λ i. t .choice i (y i)) (λ i h. ap (t .choice i) (same i h)),
+      sum-cong (s .pairs) (λ j. t .pair j (x (s .first j)) (x (s .second j))) (λ j. t .pair j (y (s .first j)) (y (s .second j)))
+          (λ j h. ap₂ (t .pair j) (same (s .first j) (inside j h .0)) (same (s .second j) (inside j h .1))),
+    )
 
 -- the constant is at most every total
 pub constant-at-most-total : (s : Shape) (t : Costs) (x : ℕ → ℕ) → t .constant ≤ total s t x
@@ -108,7 +119,6 @@ alike-inside {s} {u} e sh k h =
 
 module _ {b c : List ℤ} (e : SameShape b c) (s : Study b) where
   pub same-shape-alike : AlikeShapes (shapeOf c) (shapeOf b)
-  unfolding shapeOf
   same-shape-alike =
       record {
         trains-same = same-trains e;

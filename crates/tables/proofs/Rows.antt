@@ -9,35 +9,35 @@ use lib.Dec.{leb, ltb, eqb}
 use lib.IntN.{ℤ, pos, negsuc}
 use lib.ListN.{length}
 use borrow.Author.Tests.{lt-ltb, le-ltb, eq-eqb, eqb-true, leb-true}
+use Rattle.theory.specs.Range.{all}
+use Rattle.theory.proofs.Range.{both-true, bool-ext, all-true, all-split, all-rows, all-cong, pass-all}
 use Rattle.units.specs.Units.{scaleMin, scaleMax}
-use Rattle.tables.specs.Range.{all}
 use Rattle.tables.specs.Block.{blockLength, maxTrains, maxChoices, maxPairs, maxCost, maxParts, trainsPlace, scalePlace, pairsPlace, constantPlace, sizePlace, firstPlace, secondPlace, sizesFrom, firstsFrom, secondsFrom, loadedChoicesFrom, heldChoicesFrom, loadedEntriesFrom, heldEntriesFrom, entriesOfPair, at, figure, trains, pairs, size, first, second}
-use Rattle.tables.specs.WellFormed.{Limits, from-to, within, usedIf, choiceUsed, entryUsed, headLimits, limitsAt, placeRight, placesRight, isZero, fresh}
+use Rattle.tables.specs.WellFormed.{Limits, fromTo, within, usedIf, choiceUsed, entryUsed, headLimits, limitsAt, placeRight, placesRight, isZero, isFresh}
 use Rattle.tables.specs.Rows.{runWithin, rowWithin, rightAt, headRight, shapeRight, choicesUsed, choicesWithin, entriesUsed, pairWithin, entriesWithin}
-use Rattle.tables.proofs.Range.{both-true, bool-ext, all-true, all-split, all-rows, all-cong, pass-all}
 use Rattle.tables.proofs.Limits.{within-figure, choice-used, entry-used, entry-absent, limits-head, limits-size, limits-first, limits-second, limits-loaded-choices, limits-held-choices, limits-loaded-entries, limits-held-entries}
 
 -- ---- one row
 
 -- a row is its used places, and the others, which are 0
 pub row-split : (b : List ℤ) (from width used : ℕ) (l : Limits) → used ≤ width
-    → rowWithin b from width used l ≡ runWithin b from used l && runWithin b (from + used) (width - used) (from-to 0 0)
+    → rowWithin b from width used l ≡ runWithin b from used l && runWithin b (from + used) (width - used) (fromTo 0 0)
 row-split b from width used l h =
     let e : width ≡ used + (width - used) = omega arith in
     ap (λ (w : ℕ). rowWithin b from w used l) e
     ∙ all-split (λ k. within (usedIf (ltb k used) l) (at b (from + k))) used (width - used)
     ∙ ap₂ _&&_ (all-cong used _ _ (λ k q. rw (lt-ltb k used q))) (all-cong (width - used) _ _ (λ k q. unused k))
   where
-    unused : (k : ℕ) → within (usedIf (ltb (used + k) used) l) (at b (from + (used + k))) ≡ within (from-to 0 0) (at b (from + used + k))
+    unused : (k : ℕ) → within (usedIf (ltb (used + k) used) l) (at b (from + (used + k))) ≡ within (fromTo 0 0) (at b (from + used + k))
     unused k = let e : from + (used + k) ≡ from + used + k = omega arith in rw (le-ltb (used + k) used (omega arith), e)
 
-zero-within : (z : ℤ) → isZero z ≡ within (from-to 0 0) z
+zero-within : (z : ℤ) → isZero z ≡ within (fromTo 0 0) z
 unfolding isZero within
 zero-within (pos n) = bool-ext (eqb n 0) _ (λ e. rw (eqb-true n 0 e)) (λ e. eq-eqb n 0 (omega (arith, leb-true n 0 (both-true (leb 0 n) (leb n 0) e .1))))
 zero-within (negsuc n) = refl
 
-pub fresh-run : (b : List ℤ) → fresh b ≡ runWithin b 0 (length b) (from-to 0 0)
-unfolding fresh
+pub fresh-run : (b : List ℤ) → isFresh b ≡ runWithin b 0 (length b) (fromTo 0 0)
+unfolding isFresh
 fresh-run b = pass-all (λ p z. isZero z) (pos 0) b ∙ all-cong (length b) _ _ (λ k h. rw zero-add (zero-within (at b k)))
 
 -- ---- tables of rows
@@ -80,12 +80,12 @@ module _ (b : List ℤ) (from : ℕ) (l : Limits) where
           rw (entry-used b k a c h q, used-if (ltb a (size b (first b k))) c (size b (second b k)), used-if (ltb k (pairs b)) c (cond (ltb a (size b (first b k))) (size b (second b k)) 0), e)
 
   -- the places of a pair that is not there are one run of unused places
-  pub pair-absent : (k : ℕ) → pairs b ≤ k → pairWithin b from k l ≡ runWithin b (from + entriesOfPair * k) entriesOfPair (from-to 0 0)
+  pub pair-absent : (k : ℕ) → pairs b ≤ k → pairWithin b from k l ≡ runWithin b (from + entriesOfPair * k) entriesOfPair (fromTo 0 0)
   pair-absent k h = all-cong entriesOfPair _ _ (λ o q. unused o q)
     where
       unused : (o : ℕ) → o < entriesOfPair
           → within (usedIf (entryUsed b (entriesOfPair * k + o)) l) (at b (from + (entriesOfPair * k + o)))
-          ≡ within (from-to 0 0) (at b (from + entriesOfPair * k + o))
+          ≡ within (fromTo 0 0) (at b (from + entriesOfPair * k + o))
       unused o q =
           let e : from + (entriesOfPair * k + o) ≡ from + entriesOfPair * k + o = omega arith in
           rw (entry-absent b k o h q, e)
@@ -104,8 +104,8 @@ module _ (b : List ℤ) where
       ∙ ap (λ (t : Bool). all from (rightAt b) && t) (all-cong n _ _ (λ k q. ap (λ (l : Limits). within l (at b (from + k))) (h k q)))
 
   pub head-places : headRight b
-      ≡ within (from-to 1 maxTrains) (at b trainsPlace) && within (from-to scaleMin scaleMax) (at b scalePlace)
-      && within (from-to 0 maxPairs) (at b pairsPlace) && within (from-to 0 maxParts) (at b constantPlace)
+      ≡ within (fromTo 1 maxTrains) (at b trainsPlace) && within (fromTo scaleMin scaleMax) (at b scalePlace)
+      && within (fromTo 0 maxPairs) (at b pairsPlace) && within (fromTo 0 maxParts) (at b constantPlace)
   unfolding all headLimits
   head-places =
       rw (
@@ -116,33 +116,33 @@ module _ (b : List ℤ) where
       )
 
   pub shape-rows : shapeRight b
-      ≡ headRight b && rowWithin b sizesFrom maxTrains (trains b) (from-to 1 maxChoices)
-      && rowWithin b firstsFrom maxPairs (pairs b) (from-to 0 (maxTrains - 1))
-      && rowWithin b secondsFrom maxPairs (pairs b) (from-to 0 (maxTrains - 1))
+      ≡ headRight b && rowWithin b sizesFrom maxTrains (trains b) (fromTo 1 maxChoices)
+      && rowWithin b firstsFrom maxPairs (pairs b) (fromTo 0 (maxTrains - 1))
+      && rowWithin b secondsFrom maxPairs (pairs b) (fromTo 0 (maxTrains - 1))
   shape-rows =
       rw (
-        region secondsFrom maxPairs (λ k. usedIf (ltb k (pairs b)) (from-to 0 (maxTrains - 1))) (limits-second b),
-        region firstsFrom maxPairs (λ k. usedIf (ltb k (pairs b)) (from-to 0 (maxTrains - 1))) (limits-first b),
-        region sizesFrom maxTrains (λ i. usedIf (ltb i (trains b)) (from-to 1 maxChoices)) (limits-size b),
+        region secondsFrom maxPairs (λ k. usedIf (ltb k (pairs b)) (fromTo 0 (maxTrains - 1))) (limits-second b),
+        region firstsFrom maxPairs (λ k. usedIf (ltb k (pairs b)) (fromTo 0 (maxTrains - 1))) (limits-first b),
+        region sizesFrom maxTrains (λ i. usedIf (ltb i (trains b)) (fromTo 1 maxChoices)) (limits-size b),
       )
 
   pub places-tables : length b ≡ blockLength → placesRight b
-      ≡ shapeRight b && choicesWithin b loadedChoicesFrom (from-to 0 maxCost) && choicesWithin b heldChoicesFrom (from-to 0 maxParts)
-      && entriesWithin b loadedEntriesFrom (from-to 0 maxCost) && entriesWithin b heldEntriesFrom (from-to 0 maxParts)
+      ≡ shapeRight b && choicesWithin b loadedChoicesFrom (fromTo 0 maxCost) && choicesWithin b heldChoicesFrom (fromTo 0 maxParts)
+      && entriesWithin b loadedEntriesFrom (fromTo 0 maxCost) && entriesWithin b heldEntriesFrom (fromTo 0 maxParts)
   unfolding placesRight
   places-tables e =
       rw (
         pass-all (placeRight b) (pos 0) b,
         e,
-        region heldEntriesFrom (maxPairs * entriesOfPair) (λ o. usedIf (entryUsed b o) (from-to 0 maxParts)) (λ o h. limits-held-entries b o),
-        region loadedEntriesFrom (maxPairs * entriesOfPair) (λ o. usedIf (entryUsed b o) (from-to 0 maxCost)) (limits-loaded-entries b),
-        region heldChoicesFrom (maxTrains * maxChoices) (λ o. usedIf (choiceUsed b o) (from-to 0 maxParts)) (limits-held-choices b),
-        region loadedChoicesFrom (maxTrains * maxChoices) (λ o. usedIf (choiceUsed b o) (from-to 0 maxCost)) (limits-loaded-choices b),
+        region heldEntriesFrom (maxPairs * entriesOfPair) (λ o. usedIf (entryUsed b o) (fromTo 0 maxParts)) (λ o h. limits-held-entries b o),
+        region loadedEntriesFrom (maxPairs * entriesOfPair) (λ o. usedIf (entryUsed b o) (fromTo 0 maxCost)) (limits-loaded-entries b),
+        region heldChoicesFrom (maxTrains * maxChoices) (λ o. usedIf (choiceUsed b o) (fromTo 0 maxParts)) (limits-held-choices b),
+        region loadedChoicesFrom (maxTrains * maxChoices) (λ o. usedIf (choiceUsed b o) (fromTo 0 maxCost)) (limits-loaded-choices b),
       )
 
 -- ---- the most that a place holds
 
-used-high : (t : Bool) (low high : ℕ) → usedIf t (from-to low high) .high ≤ high
+used-high : (t : Bool) (low high : ℕ) → usedIf t (fromTo low high) .high ≤ high
 used-high true low high = omega arith
 used-high false low high = omega arith
 

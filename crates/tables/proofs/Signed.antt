@@ -12,9 +12,9 @@ use lib.Signed.{mag, ltZ, nonNeg}
 use mir.Facts.{toZ-ofZ}
 use mir.Syntax.{w64}
 use mir.Val.{Fits, toZ, ofZ}
+use Rattle.theory.proofs.Range.{both-true, bool-ext}
 use Rattle.tables.specs.Block.{nat}
-use Rattle.tables.specs.WellFormed.{Limits, from-to, within}
-use Rattle.tables.proofs.Range.{both-true, bool-ext}
+use Rattle.tables.specs.WellFormed.{Limits, fromTo, within}
 use Rattle.tables.proofs.Limits.{within-parts}
 
 negative : (z : ℤ) → ltZ z (pos 0) ≡ true → (nat z ≡ 0) × ((l : Limits) → within l z ≡ false)
@@ -31,9 +31,9 @@ within-pos : (l : Limits) (n : ℕ) → within l (pos n) ≡ leb (l .low) n && l
 unfolding within
 within-pos l n = refl
 
-within-none : (z : ℤ) → within (from-to 0 0) z ≡ true → z ≡ pos 0
+within-none : (z : ℤ) → within (fromTo 0 0) z ≡ true → z ≡ pos 0
 within-none z e =
-    let w = within-parts (from-to 0 0) z e in
+    let w = within-parts (fromTo 0 0) z e in
     let h : nat z ≡ 0 = omega (arith, w .1 .1) in
     w .0 ∙ ap pos h
 
@@ -54,14 +54,14 @@ module _ (z : ℤ) (g : mag z < 2 ^ 63) where
   back = toZ-ofZ (sfits-of g)
 
   -- the bits of a number are 0 where it is 0
-  bits-none : eqb (ofZ w64 z) 0 ≡ within (from-to 0 0) z
+  bits-none : eqb (ofZ w64 z) 0 ≡ within (fromTo 0 0) z
   bits-none =
-      bool-ext (eqb (ofZ w64 z) 0) (within (from-to 0 0) z)
-      (λ e. let h : z ≡ pos 0 = sym back ∙ ap (toZ w64) (eqb-true (ofZ w64 z) 0 e) in rw h (within-pos (from-to 0 0) 0))
+      bool-ext (eqb (ofZ w64 z) 0) (within (fromTo 0 0) z)
+      (λ e. let h : z ≡ pos 0 = sym back ∙ ap (toZ w64) (eqb-true (ofZ w64 z) 0 e) in rw h (within-pos (fromTo 0 0) 0))
       (λ e. rw (within-none z e))
 
   -- and bits that its own are joined to are 0 where they were 0 before, and it is 0
-  pub joined-none : (a : ℕ) → eqb (bitOr a (ofZ w64 z)) 0 ≡ eqb a 0 && within (from-to 0 0) z
+  pub joined-none : (a : ℕ) → eqb (bitOr a (ofZ w64 z)) 0 ≡ eqb a 0 && within (fromTo 0 0) z
   joined-none a = or-none a (ofZ w64 z) ∙ ap (λ (t : Bool). eqb a 0 && t) bits-none
 
   -- what is known to be natural is not below 0

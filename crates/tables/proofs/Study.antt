@@ -11,12 +11,12 @@ use lib.IntN.{ℤ, pos}
 use lib.ListN.{length, set, length-set}
 use lib.Seq.{getD-set-same, getD-set-other}
 use borrow.Author.Tests.{lt-ltb, ltb-true, eq-eqb, ne-eqb, eqb-true}
+use Rattle.theory.proofs.Range.{both-true, all-true, all-intro, pass-all}
 use Rattle.units.specs.Units.{scaleMin, scaleMax}
 use Rattle.tables.specs.declared.block.Block.{Block}
 use Rattle.tables.specs.declared.well_formed.NewBlock.the-variants.{Within as within-block, Outside as outside-block}
 use Rattle.tables.specs.Block.{blockLength, maxTrains, maxChoices, maxPairs, maxCost, maxParts, constantPlace, sizePlace, firstPlace, secondPlace, entriesOfPair, loadedChoicesFrom, heldChoicesFrom, loadedEntriesFrom, heldEntriesFrom, loadedChoicePlace, heldChoicePlace, loadedEntryPlace, heldEntryPlace, at, nat, figure, trains, scale, pairs, constant, size, first, second, heldChoice, heldEntry}
-use Rattle.tables.specs.WellFormed.{Limits, from-to, within, usedIf, choiceUsed, entryUsed, headLimits, limitsAt, placesRight, before, follows, pairRight, pairsRight, fresh, holdsStudy, wellFormed, newBlock, Study}
-use Rattle.tables.proofs.Range.{both-true, all-true, all-intro, pass-all}
+use Rattle.tables.specs.WellFormed.{Limits, fromTo, within, usedIf, choiceUsed, entryUsed, headLimits, limitsAt, placesRight, before, follows, pairRight, pairsRight, isFresh, holdsStudy, wellFormed, newBlock, Study}
 use Rattle.tables.proofs.Limits.{Within, within-figure, within-pos, choice-used, entry-used, limits-head, limits-size, limits-first, limits-second, limits-loaded-choices, limits-held-choices, limits-loaded-entries, limits-held-entries, shape-limits}
 
 -- ---- the test and the facts
@@ -32,24 +32,24 @@ holds-study b l e =
     }
 
 -- a well-formed block that is not fresh holds a study
-pub study-of : (b : List ℤ) → wellFormed b ≡ true → fresh b ≡ false → Study b
+pub study-of : (b : List ℤ) → wellFormed b ≡ true → isFresh b ≡ false → Study b
 unfolding wellFormed
 study-of b e f =
-    let g = both-true (eqb (length b) blockLength) (fresh b || holdsStudy b) e in
+    let g = both-true (eqb (length b) blockLength) (isFresh b || holdsStudy b) e in
     holds-study b (eqb-true (length b) blockLength (g .0)) (rw f at (g .1))
 
 -- what the constructor of a block says: the numbers are well formed, and the block keeps whether they are fresh; or they are not
-pub new-block-within : (b : List ℤ) (k : Block) → newBlock b ≡ within-block k → (wellFormed b ≡ true) × (k .fresh ≡ fresh b)
+pub new-block-within : (b : List ℤ) (k : Block) → newBlock b ≡ within-block k → (wellFormed b ≡ true) × (k .fresh ≡ isFresh b)
 new-block-within b k e = go (wellFormed b) refl e
   where
-    go : (t : Bool) → wellFormed b ≡ t → cond t (within-block (record { fresh = fresh b })) outside-block ≡ within-block k → (wellFormed b ≡ true) × (k .fresh ≡ fresh b)
-    go true p e = let h : record { fresh = fresh b } ≡ k = cc in (p, ap (λ (x : Block). x .fresh) (sym h))
+    go : (t : Bool) → wellFormed b ≡ t → cond t (within-block (record { fresh = isFresh b })) outside-block ≡ within-block k → (wellFormed b ≡ true) × (k .fresh ≡ isFresh b)
+    go true p e = let h : record { fresh = isFresh b } ≡ k = cc in (p, ap (λ (x : Block). x .fresh) (sym h))
     go false p e = let z : _≡_ {A = ℕ} 0 1 = cc in absurd (omega arith)
 
 pub new-block-outside : (b : List ℤ) → newBlock b ≡ outside-block → wellFormed b ≡ false
 new-block-outside b e = go (wellFormed b) refl e
   where
-    go : (t : Bool) → wellFormed b ≡ t → cond t (within-block (record { fresh = fresh b })) outside-block ≡ outside-block → wellFormed b ≡ false
+    go : (t : Bool) → wellFormed b ≡ t → cond t (within-block (record { fresh = isFresh b })) outside-block ≡ outside-block → wellFormed b ≡ false
     go true p e = let z : _≡_ {A = ℕ} 0 1 = cc in absurd (omega arith)
     go false p e = p
 
@@ -69,7 +69,7 @@ or-true false = refl
 
 pub study-well-formed : {b : List ℤ} → Study b → wellFormed b ≡ true
 unfolding wellFormed
-study-well-formed {b} s = rw (eq-eqb (length b) blockLength (s .whole), study-holds s) (or-true (fresh b))
+study-well-formed {b} s = rw (eq-eqb (length b) blockLength (s .whole), study-holds s) (or-true (isFresh b))
 
 -- ---- each used place is a natural number within its limits
 
@@ -83,32 +83,32 @@ module _ {b : List ℤ} (s : Study b) where
 
   pub trains-range : (1 ≤ trains b) × (trains b ≤ maxTrains)
   unfolding headLimits
-  trains-range = let w = at-limits (from-to 1 maxTrains) 0 (omega arith) (limits-head b 0 (omega arith)) in (w .low, w .high)
+  trains-range = let w = at-limits (fromTo 1 maxTrains) 0 (omega arith) (limits-head b 0 (omega arith)) in (w .low, w .high)
 
   pub scale-range : (scaleMin ≤ scale b) × (scale b ≤ scaleMax)
   unfolding headLimits
-  scale-range = let w = at-limits (from-to scaleMin scaleMax) 1 (omega arith) (limits-head b 1 (omega arith)) in (w .low, w .high)
+  scale-range = let w = at-limits (fromTo scaleMin scaleMax) 1 (omega arith) (limits-head b 1 (omega arith)) in (w .low, w .high)
 
   pub pairs-range : pairs b ≤ maxPairs
   unfolding headLimits
-  pairs-range = at-limits (from-to 0 maxPairs) 2 (omega arith) (limits-head b 2 (omega arith)) .high
+  pairs-range = at-limits (fromTo 0 maxPairs) 2 (omega arith) (limits-head b 2 (omega arith)) .high
 
   pub constant-range : constant b ≤ maxParts
   unfolding headLimits
-  constant-range = at-limits (from-to 0 maxParts) 3 (omega arith) (limits-head b 3 (omega arith)) .high
+  constant-range = at-limits (fromTo 0 maxParts) 3 (omega arith) (limits-head b 3 (omega arith)) .high
 
   -- a place whose use is decided by a test
   used : (t : Bool) (l : Limits) (p : ℕ) → p < blockLength → limitsAt b p ≡ usedIf t l → t ≡ true → Within l b p
   used t l p h e f = at-limits l p h (rw f at e)
 
   -- whether it is used or not, it is at most the limit
-  at-most : (t : Bool) (low high : ℕ) (p : ℕ) → p < blockLength → limitsAt b p ≡ usedIf t (from-to low high) → figure b p ≤ high
-  at-most true low high p h e = at-limits (from-to low high) p h e .high
-  at-most false low high p h e = omega (arith, at-limits (from-to 0 0) p h e .high)
+  at-most : (t : Bool) (low high : ℕ) (p : ℕ) → p < blockLength → limitsAt b p ≡ usedIf t (fromTo low high) → figure b p ≤ high
+  at-most true low high p h e = at-limits (fromTo low high) p h e .high
+  at-most false low high p h e = omega (arith, at-limits (fromTo 0 0) p h e .high)
 
   pub size-range : (i : ℕ) → i < trains b → (1 ≤ size b i) × (size b i ≤ maxChoices)
   size-range i h =
-      let w = used (ltb i (trains b)) (from-to 1 maxChoices) (sizePlace i) (omega (arith, trains-range)) (limits-size b i (omega (arith, trains-range))) (lt-ltb i (trains b) h) in
+      let w = used (ltb i (trains b)) (fromTo 1 maxChoices) (sizePlace i) (omega (arith, trains-range)) (limits-size b i (omega (arith, trains-range))) (lt-ltb i (trains b) h) in
       (w .low, w .high)
 
   pub size-high : (i : ℕ) → i < maxTrains → size b i ≤ maxChoices
@@ -134,14 +134,14 @@ module _ {b : List ℤ} (s : Study b) where
     here : choiceUsed b (maxChoices * i + a) ≡ true
     here = choice-used b i a (omega (arith, size-range i h)) ∙ rw (lt-ltb i (trains b) h, lt-ltb a (size b i) q)
 
-    pub loaded-choice-range : Within (from-to 0 maxCost) b (loadedChoicePlace i a)
+    pub loaded-choice-range : Within (fromTo 0 maxCost) b (loadedChoicePlace i a)
     loaded-choice-range =
-        used (choiceUsed b (maxChoices * i + a)) (from-to 0 maxCost) (loadedChoicePlace i a) (omega (arith, trains-range, size-range i h))
+        used (choiceUsed b (maxChoices * i + a)) (fromTo 0 maxCost) (loadedChoicePlace i a) (omega (arith, trains-range, size-range i h))
         (limits-loaded-choices b (maxChoices * i + a) (omega (arith, trains-range, size-range i h))) here
 
-    pub held-choice-range : Within (from-to 0 maxParts) b (heldChoicePlace i a)
+    pub held-choice-range : Within (fromTo 0 maxParts) b (heldChoicePlace i a)
     held-choice-range =
-        used (choiceUsed b (maxChoices * i + a)) (from-to 0 maxParts) (heldChoicePlace i a) (omega (arith, trains-range, size-range i h))
+        used (choiceUsed b (maxChoices * i + a)) (fromTo 0 maxParts) (heldChoicePlace i a) (omega (arith, trains-range, size-range i h))
         (limits-held-choices b (maxChoices * i + a) (omega (arith, trains-range, size-range i h))) here
 
   -- ---- the pairs
@@ -172,14 +172,14 @@ module _ {b : List ℤ} (s : Study b) where
           entry-used b k a c (small .1 .0) (small .1 .1)
           ∙ rw (lt-ltb k (pairs b) h, lt-ltb a (size b (first b k)) p, lt-ltb c (size b (second b k)) q)
 
-      pub loaded-entry-range : Within (from-to 0 maxCost) b (loadedEntryPlace k a c)
+      pub loaded-entry-range : Within (fromTo 0 maxCost) b (loadedEntryPlace k a c)
       loaded-entry-range =
-          used (entryUsed b (entriesOfPair * k + (maxChoices * a + c))) (from-to 0 maxCost) (loadedEntryPlace k a c) (omega (arith, small))
+          used (entryUsed b (entriesOfPair * k + (maxChoices * a + c))) (fromTo 0 maxCost) (loadedEntryPlace k a c) (omega (arith, small))
           (limits-loaded-entries b (entriesOfPair * k + (maxChoices * a + c)) (omega (arith, small))) entry-here
 
-      pub held-entry-range : Within (from-to 0 maxParts) b (heldEntryPlace k a c)
+      pub held-entry-range : Within (fromTo 0 maxParts) b (heldEntryPlace k a c)
       held-entry-range =
-          used (entryUsed b (entriesOfPair * k + (maxChoices * a + c))) (from-to 0 maxParts) (heldEntryPlace k a c) (omega (arith, small))
+          used (entryUsed b (entriesOfPair * k + (maxChoices * a + c))) (fromTo 0 maxParts) (heldEntryPlace k a c) (omega (arith, small))
           (limits-held-entries b (entriesOfPair * k + (maxChoices * a + c))) entry-here
 
 -- the order of pairs
@@ -268,7 +268,7 @@ module _ {b c : List ℤ} (e : SameShape b c) where
 
   same-choice-used : (o : ℕ) → o < maxTrains * maxChoices → choiceUsed c o ≡ choiceUsed b o
   unfolding choiceUsed
-  same-choice-used o h = rw (same-trains, same-size (o / 8) (omega arith))
+  same-choice-used o h = rw (same-trains, same-size (o / maxChoices) (omega arith))
 
   module _ (s : Study b) where
     same-entry-used : (o : ℕ) → o < maxPairs * entriesOfPair → entryUsed c o ≡ entryUsed b o
@@ -276,10 +276,10 @@ module _ {b c : List ℤ} (e : SameShape b c) where
     same-entry-used o h =
         rw (
           same-pairs,
-          same-first (o / 64) (omega arith),
-          same-second (o / 64) (omega arith),
-          same-size (first b (o / 64)) (first-high s (o / 64) (omega arith)),
-          same-size (second b (o / 64)) (second-high s (o / 64) (omega arith)),
+          same-first (o / entriesOfPair) (omega arith),
+          same-second (o / entriesOfPair) (omega arith),
+          same-size (first b (o / entriesOfPair)) (first-high s (o / entriesOfPair) (omega arith)),
+          same-size (second b (o / entriesOfPair)) (second-high s (o / entriesOfPair) (omega arith)),
         )
 
     -- the limits go by the shape alone
@@ -297,17 +297,17 @@ module _ {b c : List ℤ} (e : SameShape b c) where
         in-shape : p < loadedChoicesFrom → limitsAt c p ≡ limitsAt b p
         in-shape q = shape-limits c b p q same-trains same-pairs
 
-        by-choices : (from high : ℕ) → ((d : List ℤ) (o : ℕ) → o < maxTrains * maxChoices → limitsAt d (from + o) ≡ usedIf (choiceUsed d o) (from-to 0 high))
+        by-choices : (from high : ℕ) → ((d : List ℤ) (o : ℕ) → o < maxTrains * maxChoices → limitsAt d (from + o) ≡ usedIf (choiceUsed d o) (fromTo 0 high))
             → from ≤ p → p < from + maxTrains * maxChoices → limitsAt c p ≡ limitsAt b p
         by-choices from high law l q =
             let d : from + (p - from) ≡ p = omega arith in
-            rw d at (law c (p - from) (omega arith) ∙ ap (λ (t : Bool). usedIf t (from-to 0 high)) (same-choice-used (p - from) (omega arith)) ∙ sym (law b (p - from) (omega arith)))
+            rw d at (law c (p - from) (omega arith) ∙ ap (λ (t : Bool). usedIf t (fromTo 0 high)) (same-choice-used (p - from) (omega arith)) ∙ sym (law b (p - from) (omega arith)))
 
-        by-entries : (from high : ℕ) → ((d : List ℤ) (o : ℕ) → o < maxPairs * entriesOfPair → limitsAt d (from + o) ≡ usedIf (entryUsed d o) (from-to 0 high))
+        by-entries : (from high : ℕ) → ((d : List ℤ) (o : ℕ) → o < maxPairs * entriesOfPair → limitsAt d (from + o) ≡ usedIf (entryUsed d o) (fromTo 0 high))
             → from ≤ p → p < from + maxPairs * entriesOfPair → limitsAt c p ≡ limitsAt b p
         by-entries from high law l q =
             let d : from + (p - from) ≡ p = omega arith in
-            rw d at (law c (p - from) (omega arith) ∙ ap (λ (t : Bool). usedIf t (from-to 0 high)) (same-entry-used (p - from) (omega arith)) ∙ sym (law b (p - from) (omega arith)))
+            rw d at (law c (p - from) (omega arith) ∙ ap (λ (t : Bool). usedIf t (fromTo 0 high)) (same-entry-used (p - from) (omega arith)) ∙ sym (law b (p - from) (omega arith)))
 
     same-pair-right : (k : ℕ) → k < maxPairs → pairRight c k ≡ pairRight b k
     unfolding pairRight follows

@@ -3,7 +3,8 @@ use mathlib.Core.Path.{_≡_}
 use mathlib.Core.List.{List}
 use Prim.Native.Nat.{ℕ, _+_, _<_}
 use lib.IntN.{ℤ}
-use Rattle.tables.specs.Sum.{sum}
+use lib.ListN.{getD}
+use Rattle.theory.specs.Sum.{sum}
 use Rattle.tables.specs.Block.{trains, pairs, constant, size, first, second, loadedChoice, heldChoice, loadedEntry, heldEntry}
 
 -- 'A problem has n trains .. Train i has d(i) choices .. It has m pairs': variables, domains and scopes, in the words of the field
@@ -32,6 +33,10 @@ pub record Costs : Type 0 where
 unfoldable pub IsPlan : Shape → (ℕ → ℕ) → Type 0
 IsPlan s x = (i : ℕ) → i < s .trains → x i < s .size i
 
+-- the choices that a list gives, by train
+abbrev pub choicesOf : List ℕ → ℕ → ℕ
+choicesOf l i = getD l i 0
+
 -- the costs of a plan's choices
 unfoldable pub choiceTotal : Shape → Costs → (ℕ → ℕ) → ℕ
 choiceTotal s t x = sum (s .trains) (λ i. t .choice i (x i))
@@ -45,7 +50,7 @@ unfoldable pub total : Shape → Costs → (ℕ → ℕ) → ℕ
 total s t x = t .constant + choiceTotal s t x + pairTotal s t x
 
 -- the shape that a block holds
-unfoldable pub shapeOf : List ℤ → Shape
+abbrev pub shapeOf : List ℤ → Shape
 shapeOf b = record { trains = trains b; size = size b; pairs = pairs b; first = first b; second = second b }
 
 -- 'Loaded costs H are in points and have no constant'

@@ -1,10 +1,10 @@
--- What `zeros` of places.rt and the private functions of well_formed.rt answer, row by row. Nothing here is part of the rule: proofs/Rows.antt brings it to `wellFormed`.
+-- What `all_zero` of places.rt and the private functions of well_formed.rt answer, row by row. Nothing here is part of the rule: proofs/Rows.antt brings it to `wellFormed`.
 use mathlib.Core.Bool.{Bool, cond}
 use mathlib.Core.List.{List}
 use Prim.Native.Nat.{ℕ, _+_, _*_}
 use lib.Dec.{ltb}
 use lib.IntN.{ℤ}
-use Rattle.tables.specs.Range.{all}
+use Rattle.theory.specs.Range.{all}
 use Rattle.tables.specs.Block.{maxTrains, maxChoices, maxPairs, entriesOfPair, loadedChoicesFrom, at, trains, pairs, size, first, second}
 use Rattle.tables.specs.WellFormed.{Limits, within, usedIf, choiceUsed, entryUsed, placeRight}
 

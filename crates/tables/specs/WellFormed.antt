@@ -6,19 +6,19 @@ use Prim.Native.Nat.{ℕ, _-_, _/_, _%_, _<_}
 use lib.Dec.{leb, ltb, eqb}
 use lib.IntN.{ℤ, pos, negsuc}
 use lib.ListN.{length, replicate}
+use Rattle.theory.specs.Range.{all, pass}
 use Rattle.units.specs.Units.{scaleMin, scaleMax}
 use Rattle.tables.specs.declared.well_formed.NewBlock.{NewBlock}
 use Rattle.tables.specs.declared.well_formed.NewBlock.the-variants.{Within, Outside}
-use Rattle.tables.specs.Range.{all, pass}
-use Rattle.tables.specs.Block.{blockLength, maxTrains, maxChoices, maxPairs, maxCost, maxParts, trainsPlace, scalePlace, pairsPlace, sizesFrom, firstsFrom, secondsFrom, loadedChoicesFrom, heldChoicesFrom, loadedEntriesFrom, heldEntriesFrom, at, trains, pairs, size, first, second}
+use Rattle.tables.specs.Block.{blockLength, maxTrains, maxChoices, maxPairs, maxCost, maxParts, trainsPlace, scalePlace, pairsPlace, sizesFrom, firstsFrom, secondsFrom, loadedChoicesFrom, heldChoicesFrom, loadedEntriesFrom, heldEntriesFrom, at, trains, pairs, size, first, second, entriesOfPair}
 
 -- the least and the greatest number that a place may hold
 pub record Limits : Type 0 where
   pub low : ℕ
   pub high : ℕ
 
-abbrev pub from-to : ℕ → ℕ → Limits
-from-to low high = record { low = low; high = high }
+abbrev pub fromTo : ℕ → ℕ → Limits
+fromTo low high = record { low = low; high = high }
 
 -- z is from low to high
 unfoldable pub within : Limits → ℤ → Bool
@@ -27,38 +27,38 @@ within l (negsuc n) = false
 
 -- 'unused places 0'
 abbrev pub usedIf : Bool → Limits → Limits
-usedIf used l = cond used l (from-to 0 0)
+usedIf used l = cond used l (fromTo 0 0)
 
 -- the offset is that of a choice of a train: '8 × i + a'
 unfoldable pub choiceUsed : List ℤ → ℕ → Bool
-choiceUsed b o = ltb (o / 8) (trains b) && ltb (o % 8) (size b (o / 8))
+choiceUsed b o = ltb (o / maxChoices) (trains b) && ltb (o % maxChoices) (size b (o / maxChoices))
 
 -- the offset is that of two choices of a pair: '64 × pair number + 8 × a + b'
 unfoldable pub entryUsed : List ℤ → ℕ → Bool
-entryUsed b o = ltb (o / 64) (pairs b) && (ltb (o % 64 / 8) (size b (first b (o / 64))) && ltb (o % 8) (size b (second b (o / 64))))
+entryUsed b o = ltb (o / entriesOfPair) (pairs b) && (ltb (o % entriesOfPair / maxChoices) (size b (first b (o / entriesOfPair))) && ltb (o % maxChoices) (size b (second b (o / entriesOfPair))))
 
 -- 'n is 1 to 24, s 1 to 1000, m 0 to 48, .. c0 .. 0 to L'
 unfoldable pub headLimits : ℕ → Limits
 headLimits p =
-    cond (eqb p trainsPlace) (from-to 1 maxTrains)
-    (cond (eqb p scalePlace) (from-to scaleMin scaleMax)
-    (cond (eqb p pairsPlace) (from-to 0 maxPairs) (from-to 0 maxParts)))
+    cond (eqb p trainsPlace) (fromTo 1 maxTrains)
+    (cond (eqb p scalePlace) (fromTo scaleMin scaleMax)
+    (cond (eqb p pairsPlace) (fromTo 0 maxPairs) (fromTo 0 maxParts)))
 
 -- 'sizes 1 to 8', and the two trains of each pair
 unfoldable pub shapeLimits : List ℤ → ℕ → Limits
 shapeLimits b p =
     cond (ltb p sizesFrom) (headLimits p)
-    (cond (ltb p firstsFrom) (usedIf (ltb (p - sizesFrom) (trains b)) (from-to 1 maxChoices))
-    (cond (ltb p secondsFrom) (usedIf (ltb (p - firstsFrom) (pairs b)) (from-to 0 (maxTrains - 1)))
-    (usedIf (ltb (p - secondsFrom) (pairs b)) (from-to 0 (maxTrains - 1)))))
+    (cond (ltb p firstsFrom) (usedIf (ltb (p - sizesFrom) (trains b)) (fromTo 1 maxChoices))
+    (cond (ltb p secondsFrom) (usedIf (ltb (p - firstsFrom) (pairs b)) (fromTo 0 (maxTrains - 1)))
+    (usedIf (ltb (p - secondsFrom) (pairs b)) (fromTo 0 (maxTrains - 1)))))
 
 -- 'H 0 to 1,000,000, .. T 0 to L'
 unfoldable pub costLimits : List ℤ → ℕ → Limits
 costLimits b p =
-    cond (ltb p heldChoicesFrom) (usedIf (choiceUsed b (p - loadedChoicesFrom)) (from-to 0 maxCost))
-    (cond (ltb p loadedEntriesFrom) (usedIf (choiceUsed b (p - heldChoicesFrom)) (from-to 0 maxParts))
-    (cond (ltb p heldEntriesFrom) (usedIf (entryUsed b (p - loadedEntriesFrom)) (from-to 0 maxCost))
-    (usedIf (entryUsed b (p - heldEntriesFrom)) (from-to 0 maxParts))))
+    cond (ltb p heldChoicesFrom) (usedIf (choiceUsed b (p - loadedChoicesFrom)) (fromTo 0 maxCost))
+    (cond (ltb p loadedEntriesFrom) (usedIf (choiceUsed b (p - heldChoicesFrom)) (fromTo 0 maxParts))
+    (cond (ltb p heldEntriesFrom) (usedIf (entryUsed b (p - loadedEntriesFrom)) (fromTo 0 maxCost))
+    (usedIf (entryUsed b (p - heldEntriesFrom)) (fromTo 0 maxParts))))
 
 -- what place p may hold
 unfoldable pub limitsAt : List ℤ → ℕ → Limits
@@ -95,8 +95,8 @@ unfoldable pub isZero : ℤ → Bool
 isZero (pos n) = eqb n 0
 isZero (negsuc n) = false
 
-unfoldable pub fresh : List ℤ → Bool
-fresh b = pass (λ p z. isZero z) 0 b
+unfoldable pub isFresh : List ℤ → Bool
+isFresh b = pass (λ p z. isZero z) 0 b
 
 -- the second half of 'well formed': a block that holds a loaded study
 unfoldable pub holdsStudy : List ℤ → Bool
@@ -104,11 +104,11 @@ holdsStudy b = placesRight b && pairsRight b
 
 -- 'A block is well formed if fresh, or ..'
 unfoldable pub wellFormed : List ℤ → Bool
-wellFormed b = eqb (length b) blockLength && (fresh b || holdsStudy b)
+wellFormed b = eqb (length b) blockLength && (isFresh b || holdsStudy b)
 
 -- the block of these numbers, where they are well formed
 abbrev pub newBlock : List ℤ → NewBlock
-newBlock b = cond (wellFormed b) (Within (record { fresh = fresh b })) Outside
+newBlock b = cond (wellFormed b) (Within (record { fresh = isFresh b })) Outside
 
 -- a well-formed block that is not fresh, as facts: what the operations ask of their block
 pub record Study (b : List ℤ) : Type 0 where

@@ -4,7 +4,7 @@ ghost use Prim.Native.Nat.{_+_, _<_, _≤_, _^_};
 ghost use lib.IntN.{pos};
 ghost use lib.ListN.{length, set};
 ghost use Rattle.tables.specs.Block.{at, figure};
-ghost use Rattle.tables.specs.WellFormed.{from-to, within};
+ghost use Rattle.tables.specs.WellFormed.{fromTo, within};
 ghost use Rattle.tables.specs.Rows.{runWithin};
 use units::Parts;
 use units::Points;
@@ -73,7 +73,7 @@ pub fn put_parts(b: &mut [i64], p: usize, v: Parts)
 // Whether the number at place p is from low to high.
 pub fn is_within(b: &[i64], p: usize, low: u64, high: u64) -> bool
     requires { ⌜ p < length (now b) ⌝ }
-    ensures { λ r. ⌜ r ≡ within (from-to low high) (at (now (b .entry)) p) ⌝ }
+    ensures { λ r. ⌜ r ≡ within (fromTo low high) (at (now (b .entry)) p) ⌝ }
 {
     let z = b[p];
     if z < 0 {
@@ -87,9 +87,9 @@ pub fn is_within(b: &[i64], p: usize, low: u64, high: u64) -> bool
 }
 
 // Whether `count` places from `from` on are 0. Their bits are joined, and no place ends the loop, so that several places can be read at once.
-pub fn zeros(b: &[i64], from: usize, count: usize) -> bool
+pub fn all_zero(b: &[i64], from: usize, count: usize) -> bool
     requires { ⌜ from + count ≤ length (now b) ⌝ }
-    ensures { λ r. ⌜ r ≡ runWithin (now (b .entry)) from count (from-to 0 0) ⌝ }
+    ensures { λ r. ⌜ r ≡ runWithin (now (b .entry)) from count (fromTo 0 0) ⌝ }
 {
     let mut joined = 0;
     let mut k = 0;

@@ -4,7 +4,7 @@ ghost use mathlib.Core.Bool.{true};
 ghost use Prim.Native.Nat.{_+_, _*_, _<_, _≤_};
 ghost use lib.ListN.{length};
 ghost use Rattle.tables.specs.Block.{blockLength, maxTrains, maxChoices, maxPairs, entriesOfPair, pairs};
-ghost use Rattle.tables.specs.WellFormed.{from-to, before, follows, pairRight, pairsRight, fresh, holdsStudy, newBlock};
+ghost use Rattle.tables.specs.WellFormed.{fromTo, before, follows, pairRight, pairsRight, isFresh, holdsStudy, newBlock};
 ghost use Rattle.tables.specs.Rows.{runWithin, rowWithin, headRight, shapeRight, choicesUsed, choicesWithin, entriesUsed, pairWithin, entriesWithin};
 use crate::block;
 use crate::block::Block;
@@ -25,7 +25,7 @@ impl Block {
         if numbers.len() != Block::LENGTH {
             return NewBlock::Outside;
         }
-        if fresh(numbers) {
+        if is_fresh(numbers) {
             return NewBlock::Within(Block::known(true));
         }
         if holds_study(numbers) {
@@ -37,8 +37,8 @@ impl Block {
 }
 
 // Whether all numbers are 0. The first is looked at by itself: in a loaded study it is n, and the others need no look.
-fn fresh(block: &[i64]) -> bool
-    ensures { λ r. ⌜ r ≡ fresh (now (block .entry)) ⌝ }
+fn is_fresh(block: &[i64]) -> bool
+    ensures { λ r. ⌜ r ≡ isFresh (now (block .entry)) ⌝ }
 {
     if block.len() == 0 {
         return true;
@@ -46,7 +46,7 @@ fn fresh(block: &[i64]) -> bool
     if !places::is_within(block, 0, 0, 0) {
         return false;
     }
-    places::zeros(block, 0, block.len())
+    places::all_zero(block, 0, block.len())
 }
 
 // Whether the places and the pairs are those of a loaded study.
@@ -75,7 +75,7 @@ pub fn holds_study(b: &[i64]) -> bool
 // Whether `count` places from `from` on are from low to high.
 fn run_within(b: &[i64], from: usize, count: usize, low: u64, high: u64) -> bool
     requires { ⌜ from + count ≤ length (now b) ⌝ }
-    ensures { λ r. ⌜ r ≡ runWithin (now (b .entry)) from count (from-to low high) ⌝ }
+    ensures { λ r. ⌜ r ≡ runWithin (now (b .entry)) from count (fromTo low high) ⌝ }
 {
     let mut k = 0;
     while k < count {
@@ -90,12 +90,12 @@ fn run_within(b: &[i64], from: usize, count: usize, low: u64, high: u64) -> bool
 // Whether of `width` places from `from` on the first `used` are from low to high, and the others 0.
 fn row_within(b: &[i64], from: usize, width: usize, used: usize, low: u64, high: u64) -> bool
     requires { ⌜ (from + width ≤ length (now b)) × (used ≤ width) ⌝ }
-    ensures { λ r. ⌜ r ≡ rowWithin (now (b .entry)) from width used (from-to low high) ⌝ }
+    ensures { λ r. ⌜ r ≡ rowWithin (now (b .entry)) from width used (fromTo low high) ⌝ }
 {
     if !run_within(b, from, used, low, high) {
         return false;
     }
-    places::zeros(b, from + used, width - used)
+    places::all_zero(b, from + used, width - used)
 }
 
 // Whether n, s, m and c0 are within their limits.
@@ -230,7 +230,7 @@ fn choices_used(b: &[i64], i: usize) -> usize
 // Whether the table of choices that begins at `from` is from 0 to high, and 0 where it is unused.
 fn choices_within(b: &[i64], from: usize, high: u64) -> bool
     requires { ⌜ (length (now b) ≡ blockLength) × (from + maxTrains * maxChoices ≤ blockLength) × (shapeRight (now b) ≡ true) ⌝ }
-    ensures { λ r. ⌜ r ≡ choicesWithin (now (b .entry)) from (from-to 0 high) ⌝ }
+    ensures { λ r. ⌜ r ≡ choicesWithin (now (b .entry)) from (fromTo 0 high) ⌝ }
 {
     let mut i = 0;
     while i < Block::TRAINS {
@@ -266,10 +266,10 @@ fn entries_used(b: &[i64], k: usize, a: usize) -> usize
 // Whether the places of pair k in the table that begins at `from` are from 0 to high, and 0 where they are unused.
 fn pair_within(b: &[i64], from: usize, k: usize, high: u64) -> bool
     requires { ⌜ (length (now b) ≡ blockLength) × (from + maxPairs * entriesOfPair ≤ blockLength) × (k < maxPairs) × (shapeRight (now b) ≡ true) ⌝ }
-    ensures { λ r. ⌜ r ≡ pairWithin (now (b .entry)) from k (from-to 0 high) ⌝ }
+    ensures { λ r. ⌜ r ≡ pairWithin (now (b .entry)) from k (fromTo 0 high) ⌝ }
 {
     if k >= block::pairs(b) {
-        return places::zeros(b, from + Block::ENTRIES * k, Block::ENTRIES);
+        return places::all_zero(b, from + Block::ENTRIES * k, Block::ENTRIES);
     }
     let mut a = 0;
     while a < Block::CHOICES {
@@ -291,7 +291,7 @@ fn pair_within(b: &[i64], from: usize, k: usize, high: u64) -> bool
 // Whether the table of pairs that begins at `from` is from 0 to high, and 0 where it is unused.
 fn entries_within(b: &[i64], from: usize, high: u64) -> bool
     requires { ⌜ (length (now b) ≡ blockLength) × (from + maxPairs * entriesOfPair ≤ blockLength) × (shapeRight (now b) ≡ true) ⌝ }
-    ensures { λ r. ⌜ r ≡ entriesWithin (now (b .entry)) from (from-to 0 high) ⌝ }
+    ensures { λ r. ⌜ r ≡ entriesWithin (now (b .entry)) from (fromTo 0 high) ⌝ }
 {
     let mut k = 0;
     while k < Block::PAIRS {

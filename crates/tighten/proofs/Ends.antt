@@ -1,21 +1,21 @@
--- Where a tightening ends, for the crates above: the shape and the loaded costs stay, and so does the total of every plan; the constant only grows.
-use mathlib.Core.Path.{_≡_, refl, _∙_}
+-- Where a tightening ends, for the crates above: it is a rewriting, in which no number falls below 0, the constant only grows, and each train is left a choice that costs nothing.
+use mathlib.Core.Path.{_≡_}
 use mathlib.Core.Bool.{true}
 use mathlib.Core.List.{List}
 use Prim.Native.Nat.{ℕ, _+_, _*_, _<_, _≤_}
 use native.Mathlib.Omega.{arith}
 use lib.IntN.{ℤ, pos}
+use Rattle.theory.specs.Fold.{iter}
 use Rattle.tables.specs.Block.{maxParts, heldChoicesFrom, heldEntriesFrom, at, figure, trains, pairs, constant}
 use Rattle.tables.specs.Plans.{IsPlan, shapeOf, heldTotal}
 use Rattle.tables.specs.WellFormed.{holdsStudy, Study}
-use Rattle.tables.proofs.Study.{study-holds, SameShape, same-trains, same-size}
-use Rattle.operations.specs.Fold.{iter}
+use Rattle.tables.proofs.Study.{study-holds, same-trains, same-size}
 use Rattle.rewriting.specs.Moves.{ShapeInRange}
 use Rattle.rewriting.proofs.Shape.{study-shape-in-range, study-non-empty, study-non-negative, study-room, shape-in-range-kept, non-empty-kept, Moved, none, moved-shape, moved-map, moved-more, moved-then, allMoves, Any}
 use Rattle.rewriting.proofs.Totals.{moved-keeps-total}
-use Rattle.rewriting.proofs.Reach.{moved-unmet, Loaded, loaded-unmet, reach-study}
-use Rattle.rewriting.proofs.Judged.{judged-cases}
-use Rattle.tighten.specs.Tighten.{pairTightened, trainTightened, pairsTightened, tightened, tightenBlock}
+use Rattle.rewriting.proofs.Reach.{reach-study}
+use Rattle.rewriting.proofs.Rewritten.{rewrites-shape, rewrites-unmet}
+use Rattle.tighten.specs.Tighten.{pairTightened, trainTightened, pairsTightened, tightened}
 use Rattle.tighten.proofs.Falls.{Falling, falling-room, falling-non-negative, falling-pairs, falling-trains, Tight, moved-falling, moved-raises, Zero, zero-as, trains-zero, pairs-tightened, trains-tightened}
 
 module _ {b : List ℤ} (s : Study b) where
@@ -35,9 +35,10 @@ module _ {b : List ℤ} (s : Study b) where
   trains-chain : (m : ℕ) → m ≤ trains (pairsTightened b) → Moved (Tight heldChoicesFrom) (pairsTightened b) (0 + m) (iter m trainTightened (pairsTightened b))
   trains-chain m h = trains-tightened between m 0 (pairsTightened b) h none
 
-  pub tighten-chain : Moved Any b allMoves (tightened b)
+  -- a tightening is a chain of moves: what every rewriting keeps, it keeps
+  pub tighten-rewrites : Moved Any b allMoves (tightened b)
   unfolding tightened
-  tighten-chain =
+  tighten-rewrites =
       moved-more (omega (arith, study-shape-in-range s .pairs, between .trains))
       (moved-then (study-shape-in-range s) (moved-map (λ run c α r. tt) pairs-chain) (moved-map (λ run c α r. tt) (trains-chain (trains (pairsTightened b)) (omega arith))))
 
@@ -52,19 +53,13 @@ module _ {b : List ℤ} (s : Study b) where
       → Falling heldChoicesFrom pairs-most (pairs-most + (0 + m) * pairs-most) (iter m trainTightened (pairsTightened b))
   trains-falling m h = moved-falling between start-falling (trains-chain m h)
 
-  pub tighten-same-shape : SameShape b (tightened b)
-  tighten-same-shape = moved-shape (study-shape-in-range s) tighten-chain
-
-  pub tighten-loaded : (p : ℕ) → Loaded p → at (tightened b) p ≡ at b p
-  tighten-loaded p l = moved-unmet (study-non-empty s) (loaded-unmet (study-shape-in-range s) l) tighten-chain
-
   -- no number falls below 0
   pub tighten-natural : (p : ℕ) → at (tightened b) p ≡ pos (figure (tightened b) p)
   unfolding tightened
   tighten-natural = trains-falling (trains (pairsTightened b)) (omega arith) .natural
 
   pub tighten-keeps-total : (x : ℕ → ℕ) → IsPlan (shapeOf b) x → heldTotal (tightened b) x ≡ heldTotal b x
-  tighten-keeps-total = moved-keeps-total s tighten-chain tighten-natural
+  tighten-keeps-total = moved-keeps-total s tighten-rewrites tighten-natural
 
   pub tighten-raises-constant : constant b ≤ constant (tightened b)
   unfolding tightened
@@ -74,14 +69,6 @@ module _ {b : List ℤ} (s : Study b) where
         moved-raises {source = heldEntriesFrom} (omega arith) (study-shape-in-range s) (falling-pairs (study-non-negative s) (study-room s)) pairs-chain,
         moved-raises {source = heldChoicesFrom} (omega arith) between start-falling (trains-chain (trains (pairsTightened b)) (omega arith)),
       )
-
-  -- declined or not
-  pub tighten-study : Study (tightenBlock b)
-  tighten-study = judged-cases Study b (tightened b) (tighten-same-shape .whole ∙ s .whole) s (λ t. t)
-
-  pub tighten-block-keeps-total : (x : ℕ → ℕ) → IsPlan (shapeOf b) x → heldTotal (tightenBlock b) x ≡ heldTotal b x
-  tighten-block-keeps-total x p =
-      judged-cases (λ c. heldTotal c x ≡ heldTotal b x) b (tightened b) (tighten-same-shape .whole ∙ s .whole) refl (λ t. tighten-keeps-total x p)
 
   -- each train has a choice that costs nothing
   pub tighten-leaves-zero : (i : ℕ) → i < trains b → Zero b (tightened b) i
@@ -95,5 +82,5 @@ module _ {b : List ℤ} (s : Study b) where
   pub tighten-within : ((x : ℕ → ℕ) → IsPlan (shapeOf b) x → heldTotal b x ≤ maxParts) → holdsStudy (tightened b) ≡ true
   tighten-within low =
       study-holds
-      (reach-study s (tightened b) tighten-same-shape tighten-natural (λ p u. moved-unmet (study-non-empty s) u tighten-chain)
+      (reach-study s (tightened b) (rewrites-shape s tighten-rewrites) tighten-natural (rewrites-unmet s tighten-rewrites)
       (λ x p. rw (tighten-keeps-total x p) (low x p)))

@@ -10,10 +10,10 @@ use lib.IntN.{ℤ, pos, negsuc, negℤ, _+ℤ_}
 use lib.ListN.{length}
 use lib.Signed.{mag}
 use borrow.Author.Tests.{le-ltb}
+use Rattle.theory.specs.Fold.{iter}
+use Rattle.theory.proofs.Fold.{iter-ind, least-le, least-is}
 use Rattle.tables.specs.Block.{blockLength, maxTrains, maxPairs, maxParts, heldChoicesFrom, heldEntriesFrom, heldChoicePlace, constantPlace, at, nat, figure, trains, pairs, size, first, heldChoice}
 use Rattle.tables.proofs.Study.{SameShape, same-figure, same-trains, same-size, figure-at}
-use Rattle.operations.specs.Fold.{iter}
-use Rattle.operations.proofs.Fold.{iter-ind, least-le, least-is}
 use Rattle.rewriting.specs.declared.sides.PlaceRun.{PlaceRun}
 use Rattle.rewriting.specs.declared.sides.Side.{Side}
 use Rattle.rewriting.specs.declared.sides.Side.the-variants.{Rows, Columns}

@@ -10,27 +10,26 @@ use native.Mathlib.Omega.{arith}
 use lib.Dec.{ltb}
 use lib.IntN.{ℤ, pos, negsuc, _+ℤ_, _-ℤ_}
 use borrow.Author.Tests.{ltb-true, eq-eqb, ne-eqb}
-use Rattle.tables.specs.Sum.{sum}
+use Rattle.theory.specs.Sum.{sum}
+use Rattle.theory.specs.Fold.{iter, least}
+use Rattle.theory.proofs.Whole.{sumℤ-pos}
+use Rattle.refusals.specs.declared.Refusal.the-variants.{PartsOutside}
+use Rattle.refusals.specs.declared.Verdict.the-variants.{Fine, Declined}
 use Rattle.tables.specs.Block.{maxPairs, constantPlace, heldChoicePlace, heldEntryPlace, at, nat, figure, trains, pairs, size, first, second, constant, heldChoice, heldEntry}
 use Rattle.tables.specs.WellFormed.{Study}
 use Rattle.tables.proofs.Study.{SameShape, same-pairs, same-first, same-second, same-figure, first-below-second}
-use Rattle.operations.specs.declared.outcome.Outcome.the-variants.{Done, PartsOutside}
-use Rattle.operations.specs.Fold.{iter, least}
 use Rattle.rewriting.specs.declared.sides.PlaceRun.{PlaceRun}
 use Rattle.rewriting.specs.declared.sides.Side.{Side}
 use Rattle.rewriting.specs.declared.sides.Side.the-variants.{Rows, Columns}
-use Rattle.rewriting.specs.Whole.{ofPair}
+use Rattle.rewriting.specs.Ends.{ofPair, endsOf, SameEnds, Above, SomeEnd}
 use Rattle.rewriting.specs.Moves.{ShapeInRange, NonEmpty, runPlace, laneTrain, laneRun, choicesRun}
-use Rattle.rewriting.specs.Ends.{endsOf, SameEnds, Above, SomeEnd}
 use Rattle.rewriting.proofs.Shape.{study-figure, study-shape-in-range, study-non-empty, shape-same, shape-in-range-kept, non-empty-kept, lane-non-empty}
 use Rattle.rewriting.proofs.Steps.{acrossTrain, lanePlace, lane-same, choices-same}
-use Rattle.rewriting.proofs.Totals.{sumℤ-pos}
 use Rattle.rewriting.proofs.Turns.{of-map, RowSent, ColumnSent, pairTurned, trainsTurned, pair-constant, pair-choice, pair-entry, pair-entry-other, pairs-shape, pairs-constant, pairs-choice, pairs-entry, trains-constant, trains-choice, trains-high}
-use Rattle.rewriting.proofs.Reach.{Unmet, moved-unmet}
 use Rattle.rewriting.proofs.Judged.{done-unless, judged-above, judged-ends}
 use Rattle.tighten.specs.Tighten.{runLeast, runTightened, pairTightened, pairsTightened, trainsTightened, tightened, tightenOutcome, tightenBlock}
 use Rattle.tighten.specs.Leasts.{rowLeast, restLeast, gain, entryLeft, pairEnds, trainLeast, trainsEnds, tightenEnds}
-use Rattle.tighten.proofs.Ends.{pairs-natural, tighten-chain, tighten-same-shape, tighten-natural}
+use Rattle.tighten.proofs.Ends.{pairs-natural, tighten-rewrites, tighten-natural}
 
 -- ---- leasts
 
@@ -200,16 +199,13 @@ module _ {b : List ℤ} (o : Study b) where
       rest : ℕ → ℕ → ℤ
       rest k d = pos (restLeast b k d)
 
-  unmet : (p : ℕ) → Unmet b p → at (tightened b) p ≡ at b p
-  unmet p m = moved-unmet (study-non-empty o) m (tighten-chain o)
-
   -- 12, 'c0 or an entry would end below 0 or above L'. Of tighten no end is below 0: 'above L' alone is the case, and exactly then
-  pub tighten-declined : (tightenOutcome b ≡ PartsOutside) ↔ SomeEnd Above b (tightenEnds b)
-  tighten-declined = judged-above o (tightened b) (tighten-same-shape o) unmet (tightenEnds b) tightened-ends (tighten-natural o)
+  pub tighten-declined : (tightenOutcome b ≡ Declined PartsOutside) ↔ SomeEnd Above b (tightenEnds b)
+  tighten-declined = judged-above o (tighten-rewrites o) (tightenEnds b) tightened-ends (tighten-natural o)
 
-  pub tighten-accepted : (tightenOutcome b ≡ Done) ↔ (SomeEnd Above b (tightenEnds b) → ⊥)
+  pub tighten-accepted : (tightenOutcome b ≡ Fine) ↔ (SomeEnd Above b (tightenEnds b) → ⊥)
   tighten-accepted = done-unless (tightened b) tighten-declined
 
   -- the accepted block
-  pub tighten-ends : tightenOutcome b ≡ Done → SameEnds b (endsOf (tightenBlock b)) (tightenEnds b)
-  tighten-ends = judged-ends o (tightened b) (tighten-same-shape o) unmet (tightenEnds b) tightened-ends
+  pub tighten-ends : tightenOutcome b ≡ Fine → SameEnds b (endsOf (tightenBlock b)) (tightenEnds b)
+  tighten-ends = judged-ends o (tighten-rewrites o) (tightenEnds b) tightened-ends

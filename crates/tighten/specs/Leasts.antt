@@ -4,11 +4,10 @@ use mathlib.Core.List.{List}
 use Prim.Native.Nat.{ℕ, _+_, _-_}
 use lib.Dec.{eqb}
 use lib.IntN.{ℤ, pos, _-ℤ_}
-use Rattle.tables.specs.Sum.{sum}
+use Rattle.theory.specs.Sum.{sum}
+use Rattle.theory.specs.Fold.{least}
 use Rattle.tables.specs.Block.{trains, pairs, size, first, second, constant, heldChoice, heldEntry}
-use Rattle.operations.specs.Fold.{least}
-use Rattle.rewriting.specs.Whole.{ofPair}
-use Rattle.rewriting.specs.Ends.{Ends}
+use Rattle.rewriting.specs.Ends.{ofPair, Ends}
 
 -- 'for each a ascending, the least c_ij(a,b) over b': of row a of pair k
 abbrev pub rowLeast : List ℤ → ℕ → ℕ → ℕ

@@ -2,9 +2,9 @@
 use mathlib.Core.List.{List}
 use Prim.Native.Nat.{ℕ, _-_}
 use lib.IntN.{ℤ, pos}
+use Rattle.theory.specs.Fold.{iter, least}
+use Rattle.refusals.specs.declared.Verdict.{Verdict}
 use Rattle.tables.specs.Block.{figure, trains, pairs, size}
-use Rattle.operations.specs.declared.outcome.Outcome.{Outcome}
-use Rattle.operations.specs.Fold.{iter, least}
 use Rattle.rewriting.specs.declared.sides.PlaceRun.{PlaceRun}
 use Rattle.rewriting.specs.declared.sides.Side.{Side}
 use Rattle.rewriting.specs.declared.sides.Side.the-variants.{Rows, Columns}
@@ -47,7 +47,7 @@ trainsTightened b = iter (trains b) trainTightened b
 unfoldable pub tightened : List ℤ → List ℤ
 tightened b = trainsTightened (pairsTightened b)
 
-abbrev pub tightenOutcome : List ℤ → Outcome
+abbrev pub tightenOutcome : List ℤ → Verdict
 tightenOutcome b = judged (tightened b)
 
 abbrev pub tightenBlock : List ℤ → List ℤ

@@ -5,7 +5,7 @@ ghost use Rattle.tables.specs.Block.{maxParts, trains, pairs, size};
 ghost use Rattle.tables.specs.WellFormed.{Study};
 ghost use Rattle.rewriting.specs.Moves.{RunIn, Room, ShapeInRange, laneTrain, NonEmpty, NonNegative};
 ghost use Rattle.tighten.specs.Tighten.{runLeast, runTightened, laneTightened, lanesTightened, trainTightened, pairTightened, pairsTightened, trainsTightened, tightenOutcome, tightenBlock};
-use operations::outcome::Outcome;
+use refusals::Verdict;
 use rewriting::judging;
 use rewriting::moves;
 use rewriting::sides;
@@ -17,7 +17,7 @@ use tables::places;
 use units::Parts;
 
 // Tightens the held costs: leasts of rows and columns go to the choices, then leasts of the choices to the constant.
-pub fn tighten(block: &mut [i64]) -> Outcome
+pub fn tighten(block: &mut [i64]) -> Verdict
     requires { ⌜ Study (now block) ⌝ }
     ensures { λ r. ⌜ r ≡ tightenOutcome (now (block .entry)) ⌝ }
     ensures { λ r. ⌜ now (block .exit) ≡ tightenBlock (now (block .entry)) ⌝ }

@@ -6,12 +6,12 @@ use native.Mathlib.Omega.{arith}
 use lib.ListN.{take}
 use Rattle.stream.specs.Parts.{overPart}
 use Rattle.stream.proofs.Steps.{written-fits, written-length}
-use Rattle.stream.proofs.Over.{step-prints, Stands, stands-first, used-more, used-inside, stands-next, stands-last}
+use Rattle.stream.proofs.Over.{step-prints, InPart, in-part-first, used-more, used-inside, in-part-next, in-part-last}
 use Rattle.junction.proofs.answer_part.Statement.{statement}
 use Rattle.junction.proofs.answer_part.Tie as tie
 
 abbrev Inv-loop : tie.InvT-loop
-Inv-loop bytes n line₀ kept block₀ reply₀ length₀ at₀ line block reply length at = Stands (overPart (take kept line₀) block₀ (take n bytes)) (take n bytes) line block length at
+Inv-loop bytes n line₀ kept block₀ reply₀ length₀ at₀ line block reply length at = InPart (overPart (take kept line₀) block₀ (take n bytes)) (take n bytes) line block length at
 
 abbrev μ-loop : tie.MeasureT-loop
 μ-loop bytes n line₀ kept block₀ reply₀ length₀ at₀ line block reply length at = n - at
@@ -19,7 +19,7 @@ abbrev μ-loop : tie.MeasureT-loop
 loop-holds : tie.Need-loop-holds Inv-loop μ-loop
 loop-holds c =
     let a = c .before .args in
-    stands-first (take (a .n) (a .bytes .now)) (a .line .now) (a .block .now) (a .kept) (c .before .pre .1)
+    in-part-first (take (a .n) (a .bytes .now)) (a .line .now) (a .block .now) (a .kept) (c .before .pre .1)
 
 sub-rest : tie.Need-sub-rest Inv-loop μ-loop
 sub-rest c = search needs
@@ -66,13 +66,13 @@ loop-again c =
     let l = c .before .before .before .before .before .before .before .before .before .before .before in
     let a = l .before .before .args in
     let t = c .before .before .before .before .before .next-line .ensures in
-    stands-next (a .bytes .now) (a .n) (l .before .before .pre .0) (l .loop .inv) (search needs) t
+    in-part-next (a .bytes .now) (a .n) (l .before .before .pre .0) (l .loop .inv) (search needs) t
 
 returns-2 : tie.Need-returns-2 Inv-loop μ-loop
 returns-2 c =
     let l = c .before in
     let a = l .before .before .args in
-    λ e. stands-last (a .bytes .now) (a .n) (l .before .before .pre .0) (l .loop .inv) (search needs)
+    λ e. in-part-last (a .bytes .now) (a .n) (l .before .before .pre .0) (l .loop .inv) (search needs)
 
 pub answer-part-spec : {M : Type 1} → statement M
 answer-part-spec =

@@ -4,12 +4,10 @@ use mathlib.Core.Path.{ap, sym, _∙_}
 use Prim.Native.Nat.{_+_, _^_}
 use native.Mathlib.Omega.{arith}
 use Rattle.tables.specs.Block.{maxParts, trains}
-use Rattle.tables.specs.Runs.{movesBefore}
-use Rattle.tables.proofs.Study.{same-pairs}
 use Rattle.rewriting.specs.Judged.{judged, judgedBlock}
 use Rattle.rewriting.proofs.Runs.{room-more}
 use Rattle.rewriting.proofs.Shape.{Moved, none, moved-as, moved-shape, shape-in-range-kept, study-shape-in-range, study-room}
-use Rattle.shift.proofs.Rooms.{Small, moved-room, lifts-moved, same-start, shifted-by}
+use Rattle.shift.proofs.Rooms.{Small, moved-room, lifts-moved, same-count, shifted-by}
 use Rattle.shift.proofs.shift.Statement.{statement}
 use Rattle.shift.proofs.shift.Tie as tie
 
@@ -42,7 +40,7 @@ shift-pairs-requires c κs =
     let e = moved-shape h w in (
       shape-in-range-kept e h,
       room-more (2 ^ 48) (moved-room h maxParts (study-room (s .pre .0 .0)) w) (omega (arith, h .trains)),
-      s .pre .0 .2 ∙ sym (ap (movesBefore _) (same-pairs e) ∙ same-start e h _ (h .pairs)),
+      s .pre .0 .2 ∙ sym (same-count e h),
       s .pre .1 .1,
     )
 

@@ -4,22 +4,24 @@ use mathlib.Core.Path.{_≡_, refl, sym}
 use Prim.Native.Nat.{_+_, _*_, _-_, _<_, _≤_, _^_}
 use native.Mathlib.Omega.{arith}
 use lib.ListN.{length}
-use Rattle.tables.specs.Block.{maxPairs, pairs, size, first, second}
-use Rattle.tables.specs.Runs.{movesBefore}
-use Rattle.tables.proofs.Sum.{sum-none, sum-more}
+use Rattle.theory.specs.Fold.{iter}
+use Rattle.theory.proofs.Sum.{sum-none, sum-more}
+use Rattle.theory.proofs.Fold.{iter-zero, iter-turn}
+use Rattle.tables.specs.Block.{maxPairs, pairs}
+use Rattle.tables.specs.Plans.{shapeOf}
+use Rattle.tables.specs.Counts.{pairMoves, movesBefore}
+use Rattle.tables.proofs.Counting.{moves-part}
 use Rattle.tables.proofs.Study.{same-pairs}
-use Rattle.operations.specs.Fold.{iter}
-use Rattle.operations.proofs.Fold.{iter-zero, iter-turn}
 use Rattle.rewriting.specs.declared.sides.Side.the-variants.{Rows, Columns}
 use Rattle.rewriting.proofs.Runs.{room-more}
 use Rattle.rewriting.proofs.Shape.{Moved, none, moved-as, moved-shape, shape-in-range-kept, same-lanes}
 use Rattle.shift.specs.Shift.{pairShifted}
-use Rattle.shift.proofs.Rooms.{Small, moved-room, pairs-shifted, start-within}
+use Rattle.shift.proofs.Rooms.{Small, moved-room, pairs-shifted}
 use Rattle.shift.proofs.shift_pairs.Statement.{statement}
 use Rattle.shift.proofs.shift_pairs.Tie as tie
 
 abbrev Inv-loop : tie.InvT-loop
-Inv-loop b₀ moves m start₀ k₀ b start k = (k ≤ m) × (length b ≡ length b₀) × (start ≡ movesBefore b₀ k) × (b ≡ iter k (λ k. pairShifted moves (movesBefore b₀ k) k) b₀)
+Inv-loop b₀ moves m start₀ k₀ b start k = (k ≤ m) × (length b ≡ length b₀) × (start ≡ movesBefore (shapeOf b₀) k) × (b ≡ iter k (λ k. pairShifted moves (movesBefore (shapeOf b₀) k) k) b₀)
 
 abbrev μ-loop : tie.MeasureT-loop
 μ-loop b₀ moves m start₀ k₀ b start k = m - k
@@ -35,7 +37,7 @@ chain l =
     let s = l .before .before .before in
     moved-as (l .loop .inv .3)
     (pairs-shifted (s .pre .0) (s .args .moves .now) (λ r x i. s .pre .3 .small i)
-    (movesBefore (s .args .b .now)) (l .loop .k) 0 (s .args .b .now) (omega (arith, l .before .pairs .ensures)) none)
+    (movesBefore (shapeOf (s .args .b .now))) (l .loop .k) 0 (s .args .b .now) (omega (arith, l .before .pairs .ensures)) none)
 
 shift-pair-requires : tie.Need-shift-pair-requires Inv-loop μ-loop
 shift-pair-requires c κs =
@@ -48,7 +50,7 @@ shift-pair-requires c κs =
       (shape-in-range-kept e h, room-more (2 ^ 52) (moved-room h (2 ^ 48) (s .pre .1) w) (omega (arith, h .pairs)), omega (arith, same-pairs e), s .pre .3),
       omega (
         arith,
-        start-within (s .args .b .now) (l .loop .k) (pairs (s .args .b .now)) g,
+        moves-part (shapeOf (s .args .b .now)) (l .loop .k) (pairs (s .args .b .now)) g,
         same-lanes e h (l .loop .k) (omega (arith, h .pairs)) Rows,
         same-lanes e h (l .loop .k) (omega (arith, h .pairs)) Columns,
       ),
@@ -74,11 +76,11 @@ loop-again c =
       omega (
         arith,
         r .shift-pair .ensures .0,
-        sum-more (l .loop .k) (λ k. size (a .b .now) (first (a .b .now) k) + size (a .b .now) (second (a .b .now) k)),
+        sum-more (l .loop .k) (pairMoves (shapeOf (a .b .now))),
         same-lanes e h (l .loop .k) g Rows,
         same-lanes e h (l .loop .k) g Columns,
       ),
-      iter-turn (λ k. pairShifted (a .moves .now) (movesBefore (a .b .now) k) k) (a .b .now) (l .loop .inv .3)
+      iter-turn (λ k. pairShifted (a .moves .now) (movesBefore (shapeOf (a .b .now)) k) k) (a .b .now) (l .loop .inv .3)
           (rw (l .loop .inv .2) at (r .shift-pair .ensures .1)),
     )
 

@@ -5,9 +5,9 @@ use mathlib.Core.Path.{_≡_, sym, ap, _∙_}
 use Prim.Native.Nat.{_+_, _-_, _<_}
 use native.Mathlib.Nat.{mul-zero, add-zero}
 use native.Mathlib.Omega.{arith}
+use Rattle.theory.specs.Fold.{least as leastOf}
+use Rattle.theory.proofs.Fold.{least-zero, least-more}
 use Rattle.tables.specs.Block.{figure}
-use Rattle.operations.specs.Fold.{least as leastOf}
-use Rattle.operations.proofs.Fold.{least-zero, least-more}
 use Rattle.rewriting.specs.declared.sides.PlaceRun.{PlaceRun}
 use Rattle.rewriting.specs.Moves.{runPlace}
 use Rattle.tighten.specs.Tighten.{runLeast}

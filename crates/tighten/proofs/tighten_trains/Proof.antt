@@ -4,10 +4,10 @@ use mathlib.Core.Path.{_≡_, refl, sym}
 use Prim.Native.Nat.{_+_, _-_, _≤_, _^_}
 use native.Mathlib.Omega.{arith}
 use lib.ListN.{length}
+use Rattle.theory.specs.Fold.{iter}
+use Rattle.theory.proofs.Fold.{iter-zero, iter-turn}
 use Rattle.tables.specs.Block.{heldChoicesFrom, trains}
 use Rattle.tables.proofs.Study.{same-trains}
-use Rattle.operations.specs.Fold.{iter}
-use Rattle.operations.proofs.Fold.{iter-zero, iter-turn}
 use Rattle.rewriting.proofs.Runs.{room-more}
 use Rattle.rewriting.proofs.Shape.{Moved, none, moved-as, moved-shape, shape-in-range-kept, non-empty-kept}
 use Rattle.tighten.specs.Tighten.{trainTightened}

@@ -21,8 +21,8 @@ size-requires-2 : tie.Need-size-requires-2
 size-requires-2 c κs = let s = c .before .before .before .before in
     (s .pre .0 .whole, omega (arith, c .before .second .ensures, second-below-trains (s .pre .0) (s .args .k) (s .pre .1 .1 .there), trains-range (s .pre .0)))
 
-choice-start-requires : tie.Need-choice-start-requires
-choice-start-requires c κs = let d = c .before .before .before in
+choices-before-requires : tie.Need-choices-before-requires
+choices-before-requires c κs = let d = c .before .before .before in
     let s = d .before .before in
     (s .pre .0, omega (arith, d .first .ensures, first-below-trains (s .pre .0) (s .args .k) (s .pre .1 .1 .there)))
 
@@ -30,7 +30,7 @@ runs-match-requires : tie.Need-runs-match-requires
 runs-match-requires c κs = let e = c .before in
     let d = e .before .before in
     let s = d .before .before .before in
-    rw (s .pre .1 .1 .begins, c .choice-start .ensures, e .before .size .ensures, e .size2 .ensures, d .before .first .ensures, d .second .ensures)
+    rw (s .pre .1 .1 .begins, c .choices-before .ensures, e .before .size .ensures, e .size2 .ensures, d .before .first .ensures, d .second .ensures)
     (rows-runs (s .pre .0) (s .pre .1 .0) (s .args .k) (s .pre .1 .1 .there))
 
 returns : tie.Need-returns
@@ -39,13 +39,13 @@ returns c = let r = c .before in
     let d = e .before .before in
     let s = d .before .before .before in
     rw (
-      pair-by-runs (s .args .b .now) (s .args .weights .now) (s .args .k) (d .before .first .ensures) (d .second .ensures) (e .before .size .ensures) (e .size2 .ensures) (s .pre .1 .1 .begins) (r .before .choice-start .ensures) refl,
+      pair-by-runs (s .args .b .now) (s .args .weights .now) (s .args .k) (d .before .first .ensures) (d .second .ensures) (e .before .size .ensures) (e .size2 .ensures) (s .pre .1 .1 .begins) (r .before .choices-before .ensures) refl,
       ← r .runs-match .ensures,
       not-true (r .runs-match .result) (c .if1 .taken),
     )
 
-choice-start-requires-2 : tie.Need-choice-start-requires-2
-choice-start-requires-2 c κs = let d = c .before .before .before .before .before in
+choices-before-requires-2 : tie.Need-choices-before-requires-2
+choices-before-requires-2 c κs = let d = c .before .before .before .before .before in
     let s = d .before .before .before in
     (s .pre .0, omega (arith, d .second .ensures, second-below-trains (s .pre .0) (s .args .k) (s .pre .1 .1 .there)))
 
@@ -53,7 +53,7 @@ runs-match-requires-2 : tie.Need-runs-match-requires-2
 runs-match-requires-2 c κs = let e = c .before .before .before .before in
     let d = e .before .before in
     let s = d .before .before .before in
-    rw (s .pre .1 .1 .begins, c .choice-start2 .ensures, e .before .size .ensures, e .size2 .ensures, d .before .first .ensures, d .second .ensures)
+    rw (s .pre .1 .1 .begins, c .choices-before2 .ensures, e .before .size .ensures, e .size2 .ensures, d .before .first .ensures, d .second .ensures)
     (columns-runs (s .pre .0) (s .pre .1 .0) (s .args .k) (s .pre .1 .1 .there))
 
 returns-2 : tie.Need-returns-2
@@ -63,7 +63,7 @@ returns-2 c = let g = c .before in
     let d = e .before .before in
     let s = d .before .before .before in
     rw (
-      pair-by-runs (s .args .b .now) (s .args .weights .now) (s .args .k) (d .before .first .ensures) (d .second .ensures) (e .before .size .ensures) (e .size2 .ensures) (s .pre .1 .1 .begins) (r .before .choice-start .ensures) (g .choice-start2 .ensures),
+      pair-by-runs (s .args .b .now) (s .args .weights .now) (s .args .k) (d .before .first .ensures) (d .second .ensures) (e .before .size .ensures) (e .size2 .ensures) (s .pre .1 .1 .begins) (r .before .choices-before .ensures) (g .choices-before2 .ensures),
       ← r .runs-match .ensures,
       not-false (r .runs-match .result) (g .before .if1 .left),
     )
@@ -77,9 +77,9 @@ pair-matches-spec =
     second-requires
     size-requires
     size-requires-2
-    choice-start-requires
+    choices-before-requires
     runs-match-requires
     returns
-    choice-start-requires-2
+    choices-before-requires-2
     runs-match-requires-2
     returns-2)

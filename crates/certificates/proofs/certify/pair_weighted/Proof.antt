@@ -3,77 +3,70 @@ use borrow.Author.Needs.{needs}
 use mathlib.Core.Path.{_≡_, sym}
 use Prim.Native.Nat.{_+_, _-_, _≤_}
 use native.Mathlib.Omega.{arith}
-use Rattle.tables.specs.Sum.{sum}
-use Rattle.tables.specs.Block.{size, first, second}
-use Rattle.tables.proofs.Sum.{sum-none, sum-more}
-use Rattle.tables.proofs.Study.{trains-range, pairs-range, size-range, first-below-trains, second-below-trains}
+use Rattle.theory.specs.Sum.{sum}
+use Rattle.theory.proofs.Sum.{sum-none, sum-more}
+use Rattle.tables.proofs.Study.{pairs-range}
+use Rattle.tables.specs.Plans.{shapeOf}
+use Rattle.tables.specs.Counts.{rowsOf, columnsOf}
+use Rattle.tables.proofs.Counting.{rows-range}
 use Rattle.certificates.specs.Runs.{rowWeighted, pairWeighted}
 use Rattle.certificates.proofs.Runs.{row-inside, row-weights, rows-most}
 use Rattle.certificates.proofs.certify.pair_weighted.Statement.{statement}
 use Rattle.certificates.proofs.certify.pair_weighted.Tie as tie
 
 abbrev Inv-loop : tie.InvT-loop
-Inv-loop b weights k from rows columns sum₀ a₀ so-far a = (rows ≡ size b (first b k)) × (columns ≡ size b (second b k)) × (a ≤ rows) × (so-far ≡ sum a (rowWeighted b weights k))
+Inv-loop b weights k from rows columns sum₀ a₀ so-far a = (rows ≡ rowsOf (shapeOf b) k) × (columns ≡ columnsOf (shapeOf b) k) × (a ≤ rows) × (so-far ≡ sum a (rowWeighted b weights k))
 
 abbrev μ-loop : tie.MeasureT-loop
 μ-loop b weights k from rows columns sum₀ a₀ so-far a = rows - a
 
-first-requires : tie.Need-first-requires Inv-loop μ-loop
-first-requires c κs = let s = c .before in (s .pre .0 .whole, omega (arith, pairs-range (s .pre .0)))
+rows-of-requires : tie.Need-rows-of-requires Inv-loop μ-loop
+rows-of-requires c κs = let s = c .before in (s .pre .0, s .pre .1 .1 .1 .there)
 
-size-requires : tie.Need-size-requires Inv-loop μ-loop
-size-requires c κs = let s = c .before .before in
-    (s .pre .0 .whole, omega (arith, c .first .ensures, first-below-trains (s .pre .0) (s .args .k) (s .pre .1 .1 .1 .there), trains-range (s .pre .0)))
-
-second-requires : tie.Need-second-requires Inv-loop μ-loop
-second-requires c κs = let s = c .before .before .before in (s .pre .0 .whole, omega (arith, pairs-range (s .pre .0)))
-
-size-requires-2 : tie.Need-size-requires-2 Inv-loop μ-loop
-size-requires-2 c κs = let s = c .before .before .before .before in
-    (s .pre .0 .whole, omega (arith, c .second .ensures, second-below-trains (s .pre .0) (s .args .k) (s .pre .1 .1 .1 .there), trains-range (s .pre .0)))
+columns-of-requires : tie.Need-columns-of-requires Inv-loop μ-loop
+columns-of-requires c κs = let s = c .before .before in (s .pre .0, s .pre .1 .1 .1 .there)
 
 loop-holds : tie.Need-loop-holds Inv-loop μ-loop
-loop-holds c = let d = c .before .before in
-    (rw (d .before .first .ensures) at (d .size .ensures), rw (c .before .second .ensures) at (c .size2 .ensures), omega arith, sym (sum-none _))
+loop-holds c = (c .before .rows-of .ensures, c .columns-of .ensures, omega arith, sym (sum-none _))
 
 entry-place-requires : tie.Need-entry-place-requires Inv-loop μ-loop
-entry-place-requires c κs = let s = c .before .before .before .before .before .before .before in
-    omega (arith, pairs-range (s .pre .0), size-range (s .pre .0) _ (first-below-trains (s .pre .0) (s .args .k) (s .pre .1 .1 .1 .there)))
+entry-place-requires c κs = let s = c .before .before .before .before .before in
+    omega (arith, pairs-range (s .pre .0), rows-range (s .pre .0) (s .args .k) (s .pre .1 .1 .1 .there))
 
 mul-run-weighted : tie.Need-mul-run-weighted Inv-loop μ-loop
 mul-run-weighted c = let l = c .before .before in
-    let s = l .before .before .before .before .before .before in
+    let s = l .before .before .before .before in
     rw (l .loop .inv .1) (omega (arith, row-inside (s .pre .0) (s .pre .1 .0) (s .args .k) (s .pre .1 .1 .1 .there) (l .loop .a) (omega arith)))
 
 add-run-weighted : tie.Need-add-run-weighted Inv-loop μ-loop
 add-run-weighted c = let l = c .before .before in
-    let s = l .before .before .before .before .before .before in
+    let s = l .before .before .before .before in
     rw (l .loop .inv .1) (omega (arith, row-inside (s .pre .0) (s .pre .1 .0) (s .args .k) (s .pre .1 .1 .1 .there) (l .loop .a) (omega arith)))
 
 run-weighted-requires : tie.Need-run-weighted-requires Inv-loop μ-loop
 run-weighted-requires c κs = let l = c .before .before in
-    let s = l .before .before .before .before .before .before in
+    let s = l .before .before .before .before in
     rw (s .pre .1 .1 .1 .begins, l .loop .inv .1, c .entry-place .ensures)
     (row-weights (s .pre .0) (s .args .k) (s .pre .1 .1 .1 .there) (s .pre .1 .1 .0) (s .pre .1 .0) (l .loop .a) (omega arith))
 
 -- the call answers for row a
 run : (c : tie.After-run-weighted Inv-loop μ-loop)
-    → c .run-weighted .result ≡ rowWeighted (c .before .before .before .before .before .before .before .before .before .args .b .now) (c .before .before .before .before .before .before .before .before .before .args .weights .now) (c .before .before .before .before .before .before .before .before .before .args .k) (c .before .before .before .loop .a)
+    → c .run-weighted .result ≡ rowWeighted (c .before .before .before .before .before .before .before .args .b .now) (c .before .before .before .before .before .before .before .args .weights .now) (c .before .before .before .before .before .before .before .args .k) (c .before .before .before .loop .a)
 unfolding rowWeighted
 run c =
     let l = c .before .before .before in
-    let s = l .before .before .before .before .before .before in
+    let s = l .before .before .before .before in
     rw (s .pre .1 .1 .1 .begins, l .loop .inv .1, c .before .entry-place .ensures) at (c .run-weighted .ensures)
 
 add-sum : tie.Need-add-sum Inv-loop μ-loop
 add-sum c = let l = c .before .before .before in
-    let s = l .before .before .before .before .before .before in
+    let s = l .before .before .before .before in
     omega (
       arith,
       run c,
       sum-more (l .loop .a) (rowWeighted (s .args .b .now) (s .args .weights .now) (s .args .k)),
       rows-most (s .pre .0) (s .args .k) (s .pre .1 .1 .1 .there) (s .pre .1 .1 .0) (l .loop .a + 1) (omega arith),
-      size-range (s .pre .0) _ (first-below-trains (s .pre .0) (s .args .k) (s .pre .1 .1 .1 .there)),
+      rows-range (s .pre .0) (s .args .k) (s .pre .1 .1 .1 .there),
     )
 
 add-a : tie.Need-add-a Inv-loop μ-loop
@@ -84,7 +77,7 @@ loop-less c = search needs
 
 loop-again : tie.Need-loop-again Inv-loop μ-loop
 loop-again c = let l = c .before .before .before in
-    let s = l .before .before .before .before .before .before in (
+    let s = l .before .before .before .before in (
       l .loop .inv .0,
       l .loop .inv .1,
       omega arith,
@@ -93,9 +86,9 @@ loop-again c = let l = c .before .before .before in
 
 returns : tie.Need-returns Inv-loop μ-loop
 unfolding pairWeighted
-returns c = let s = c .before .before .before .before .before .before .before in
+returns c = let s = c .before .before .before .before .before in
     let l = c .before .loop in
-    let e : l .a ≡ size (s .args .b .now) (first (s .args .b .now) (s .args .k)) = omega arith in
+    let e : l .a ≡ rowsOf (shapeOf (s .args .b .now)) (s .args .k) = omega arith in
     rw e at (l .inv .3)
 
 pub pair-weighted-spec : {M : Type 1} → statement M
@@ -104,10 +97,8 @@ pair-weighted-spec =
     (tie.spec
     Inv-loop
     μ-loop
-    first-requires
-    size-requires
-    second-requires
-    size-requires-2
+    rows-of-requires
+    columns-of-requires
     loop-holds
     entry-place-requires
     mul-run-weighted

@@ -5,13 +5,15 @@ use mathlib.Core.Path.{_≡_, sym}
 use mathlib.Core.Bool.{true}
 use Prim.Native.Nat.{_+_, _-_, _≤_}
 use native.Mathlib.Omega.{arith}
-use Rattle.tables.specs.Sum.{sum}
-use Rattle.tables.specs.Range.{all}
+use Rattle.theory.specs.Sum.{sum}
+use Rattle.theory.specs.Range.{all}
+use Rattle.theory.proofs.Range.{refused, passed, all-zero, all-more, all-false}
+use Rattle.theory.proofs.Sum.{sum-none, sum-more}
 use Rattle.tables.specs.Block.{pairs}
-use Rattle.tables.proofs.Sum.{sum-none, sum-more}
-use Rattle.tables.proofs.Range.{refused, passed, all-zero, all-more, all-false}
+use Rattle.tables.specs.Plans.{shapeOf}
+use Rattle.tables.specs.Counts.{pairEntries}
 use Rattle.tables.proofs.Study.{pairs-range}
-use Rattle.certificates.specs.Runs.{entries, entriesFrom, pairMatches, pairsMatch, pairWeighted, pairsWeighted}
+use Rattle.certificates.specs.Runs.{entriesFrom, pairMatches, pairsMatch, pairWeighted, pairsWeighted}
 use Rattle.certificates.proofs.Runs.{pair-inside, pairs-most, rows-within}
 use Rattle.certificates.proofs.certify.pairs_judged.Statement.{statement}
 use Rattle.certificates.proofs.certify.pairs_judged.Tie as tie
@@ -26,38 +28,35 @@ abbrev μ-loop : tie.MeasureT-loop
 pairs-requires : tie.Need-pairs-requires Inv-loop μ-loop
 pairs-requires c κs = c .before .pre .0 .whole
 
-trains-requires : tie.Need-trains-requires Inv-loop μ-loop
-trains-requires c κs = c .before .before .pre .0 .whole
-
-choice-start-requires : tie.Need-choice-start-requires Inv-loop μ-loop
-choice-start-requires c κs = let s = c .before .before .before in (s .pre .0, omega (arith, c .trains .ensures))
+choice-count-requires : tie.Need-choice-count-requires Inv-loop μ-loop
+choice-count-requires c κs = c .before .before .pre .0
 
 loop-holds : tie.Need-loop-holds Inv-loop μ-loop
-loop-holds c = let s = c .before .before .before .before in (
-  c .before .before .pairs .ensures,
+loop-holds c = let s = c .before .before .before in (
+  c .before .pairs .ensures,
   omega arith,
-  omega (arith, rw (c .before .trains .ensures) at (c .choice-start .ensures), sum-none (entries (s .args .b .now))),
+  omega (arith, c .choice-count .ensures, sum-none (pairEntries (shapeOf (s .args .b .now)))),
   all-zero _,
   sym (sum-none _),
 )
 
 pair-matches-requires : tie.Need-pair-matches-requires Inv-loop μ-loop
-pair-matches-requires c κs = let s = c .before .before .before .before .before .before in (s .pre .0, (s .pre .1 .0, record { there = omega arith; begins = c .before .loop .inv .2 }))
+pair-matches-requires c κs = let s = c .before .before .before .before .before in (s .pre .0, (s .pre .1 .0, record { there = omega arith; begins = c .before .loop .inv .2 }))
 
 returns : tie.Need-returns Inv-loop μ-loop
 unfolding pairsMatch
 returns c = let l = c .before .before .before in
-    let a = l .before .before .before .before .before .args in
+    let a = l .before .before .before .before .args in
     rw (all-false (pairMatches (a .b .now) (a .weights .now)) (pairs (a .b .now)) (l .loop .k) (omega arith) (refused (c .before .pair-matches .ensures) (c .if1 .taken)))
 
 -- pair k was judged, and so were those before it
 judged : (c : tie.Else1 Inv-loop μ-loop)
-    → all (c .before .before .before .loop .k + 1) (pairMatches (c .before .before .before .before .before .before .before .before .args .b .now) (c .before .before .before .before .before .before .before .before .args .weights .now)) ≡ true
+    → all (c .before .before .before .loop .k + 1) (pairMatches (c .before .before .before .before .before .before .before .args .b .now) (c .before .before .before .before .before .before .before .args .weights .now)) ≡ true
 judged c = all-more _ _ (c .before .before .before .loop .inv .3) (passed (c .before .pair-matches .ensures) (c .if1 .left))
 
 pair-weighted-requires : tie.Need-pair-weighted-requires Inv-loop μ-loop
 pair-weighted-requires c κs = let l = c .before .before .before in
-    let s = l .before .before .before .before .before in (
+    let s = l .before .before .before .before in (
       s .pre .0,
       (
         s .pre .1 .0,
@@ -70,7 +69,7 @@ pair-weighted-requires c κs = let l = c .before .before .before in
 
 add-sum : tie.Need-add-sum Inv-loop μ-loop
 add-sum c = let l = c .before .before .before .before in
-    let s = l .before .before .before .before .before in
+    let s = l .before .before .before .before in
     omega (
       arith,
       c .pair-weighted .ensures,
@@ -79,13 +78,13 @@ add-sum c = let l = c .before .before .before .before in
       pairs-range (s .pre .0),
     )
 
-entries-requires : tie.Need-entries-requires Inv-loop μ-loop
-entries-requires c κs = let s = c .before .before .before .before .before .before .before .before .before in (s .pre .0, omega arith)
+pair-entries-requires : tie.Need-pair-entries-requires Inv-loop μ-loop
+pair-entries-requires c κs = let s = c .before .before .before .before .before .before .before .before in (s .pre .0, omega arith)
 
 add-from : tie.Need-add-from Inv-loop μ-loop
 add-from c = let l = c .before .before .before .before .before in
-    let s = l .before .before .before .before .before in
-    omega (arith, c .entries .ensures, pair-inside (s .pre .0) (s .pre .1 .0) (l .loop .k) (omega arith))
+    let s = l .before .before .before .before in
+    omega (arith, c .pair-entries .ensures, pair-inside (s .pre .0) (s .pre .1 .0) (l .loop .k) (omega arith))
 
 add-k : tie.Need-add-k Inv-loop μ-loop
 add-k c = search needs
@@ -95,10 +94,10 @@ loop-less c = search needs
 
 loop-again : tie.Need-loop-again Inv-loop μ-loop
 loop-again c = let l = c .before .before .before .before .before in
-    let s = l .before .before .before .before .before in (
+    let s = l .before .before .before .before in (
       l .loop .inv .0,
       omega arith,
-      omega (arith, c .entries .ensures, sum-more (l .loop .k) (entries (s .args .b .now))),
+      omega (arith, c .pair-entries .ensures, sum-more (l .loop .k) (pairEntries (shapeOf (s .args .b .now)))),
       judged (c .before .before),
       omega (arith, c .before .pair-weighted .ensures, sum-more (l .loop .k) (pairWeighted (s .args .b .now) (s .args .weights .now))),
     )
@@ -106,7 +105,7 @@ loop-again c = let l = c .before .before .before .before .before in
 returns-2 : tie.Need-returns-2 Inv-loop μ-loop
 unfolding pairsMatch pairsWeighted
 returns-2 c = let l = c .before .loop in
-    let e : l .k ≡ pairs (c .before .before .before .before .before .before .args .b .now) = omega arith in
+    let e : l .k ≡ pairs (c .before .before .before .before .before .args .b .now) = omega arith in
     rw (rw e at (l .inv .3), rw e at (l .inv .4))
 
 pub pairs-judged-spec : {M : Type 1} → statement M
@@ -116,14 +115,13 @@ pairs-judged-spec =
     Inv-loop
     μ-loop
     pairs-requires
-    trains-requires
-    choice-start-requires
+    choice-count-requires
     loop-holds
     pair-matches-requires
     returns
     pair-weighted-requires
     add-sum
-    entries-requires
+    pair-entries-requires
     add-from
     add-k
     loop-less

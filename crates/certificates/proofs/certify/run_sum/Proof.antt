@@ -4,7 +4,7 @@ use mathlib.Core.Path.{_≡_, sym}
 use Prim.Native.Nat.{_+_, _*_, _-_, _≤_}
 use native.Mathlib.Omega.{arith}
 use lib.ListN.{getD}
-use Rattle.tables.proofs.Sum.{sum-none, sum-more}
+use Rattle.theory.proofs.Sum.{sum-none, sum-more}
 use Rattle.certificates.specs.Certify.{weightsBelow}
 use Rattle.certificates.specs.Runs.{runSum}
 use Rattle.certificates.proofs.certify.run_sum.Statement.{statement}

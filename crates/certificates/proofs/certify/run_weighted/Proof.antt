@@ -3,7 +3,7 @@ use borrow.Author.Needs.{needs}
 use mathlib.Core.Path.{_≡_, sym, _∙_}
 use Prim.Native.Nat.{_-_, _≤_}
 use native.Mathlib.Omega.{arith}
-use Rattle.tables.proofs.Sum.{sum-none}
+use Rattle.theory.proofs.Sum.{sum-none}
 use Rattle.certificates.specs.Runs.{runWeighted}
 use Rattle.certificates.proofs.Runs.{run-next}
 use Rattle.certificates.proofs.certify.run_weighted.Statement.{statement}

@@ -4,7 +4,7 @@ use mathlib.Core.Path.{_≡_, sym}
 use mathlib.Core.Bool.{true}
 use Prim.Native.Nat.{_-_, _≤_}
 use native.Mathlib.Omega.{arith}
-use Rattle.tables.proofs.Range.{all-zero, all-more, all-false}
+use Rattle.theory.proofs.Range.{all-zero, all-more, all-false}
 use Rattle.certificates.specs.Runs.{runsMatch}
 use Rattle.certificates.proofs.Runs.{equal, unequal}
 use Rattle.certificates.proofs.certify.runs_match.Statement.{statement}

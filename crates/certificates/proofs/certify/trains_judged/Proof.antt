@@ -5,13 +5,14 @@ use mathlib.Core.Path.{_≡_, sym}
 use mathlib.Core.Bool.{true}
 use Prim.Native.Nat.{_+_, _-_, _≤_}
 use native.Mathlib.Omega.{arith}
-use Rattle.tables.specs.Sum.{sum}
-use Rattle.tables.specs.Range.{all}
+use Rattle.theory.specs.Sum.{sum}
+use Rattle.theory.specs.Range.{all}
+use Rattle.theory.proofs.Range.{all-zero, all-more, all-false}
+use Rattle.theory.proofs.Sum.{sum-none, sum-more}
 use Rattle.tables.specs.Block.{trains, size}
-use Rattle.tables.specs.Ranges.{maxFullWeight}
-use Rattle.tables.specs.Runs.{choicesBefore}
-use Rattle.tables.proofs.Sum.{sum-none, sum-more}
-use Rattle.tables.proofs.Range.{all-zero, all-more, all-false}
+use Rattle.tables.specs.LineLimits.{maxFullWeight}
+use Rattle.tables.specs.Plans.{shapeOf}
+use Rattle.tables.specs.Counts.{choicesBefore}
 use Rattle.tables.proofs.Study.{trains-range}
 use Rattle.certificates.specs.Runs.{runSum, trainMatches, trainsMatch, trainWeighted, trainsWeighted}
 use Rattle.certificates.proofs.Runs.{equal, unequal, train-inside, train-run, train-weights, trains-most}
@@ -20,7 +21,7 @@ use Rattle.certificates.proofs.certify.trains_judged.Tie as tie
 
 abbrev Inv-loop : tie.InvT-loop
 Inv-loop b weights fullWeight n sum₀ start₀ i₀ so-far start i =
-    (n ≡ trains b) × (i ≤ n) × (start ≡ choicesBefore b i) × (all i (trainMatches b weights fullWeight) ≡ true) × (so-far ≡ sum i (trainWeighted b weights))
+    (n ≡ trains b) × (i ≤ n) × (start ≡ choicesBefore (shapeOf b) i) × (all i (trainMatches b weights fullWeight) ≡ true) × (so-far ≡ sum i (trainWeighted b weights))
 
 abbrev μ-loop : tie.MeasureT-loop
 μ-loop b weights fullWeight n sum₀ start₀ i₀ so-far start i = n - i
@@ -42,7 +43,7 @@ run-sum-requires c κs = let l = c .before .before in
 -- the call answers for train i
 run : (c : tie.After-run-sum Inv-loop μ-loop)
     → c .run-sum .result
-    ≡ runSum (c .before .before .before .before .before .before .args .weights .now) (choicesBefore (c .before .before .before .before .before .before .args .b .now) (c .before .before .before .loop .i)) 1 (size (c .before .before .before .before .before .before .args .b .now) (c .before .before .before .loop .i))
+    ≡ runSum (c .before .before .before .before .before .before .args .weights .now) (choicesBefore (shapeOf (c .before .before .before .before .before .before .args .b .now)) (c .before .before .before .loop .i)) 1 (size (c .before .before .before .before .before .before .args .b .now) (c .before .before .before .loop .i))
 run c = rw (c .before .before .before .loop .inv .2, c .before .size .ensures) at (c .run-sum .ensures)
 
 returns : tie.Need-returns Inv-loop μ-loop
@@ -63,7 +64,7 @@ run-weighted-requires : tie.Need-run-weighted-requires Inv-loop μ-loop
 run-weighted-requires c κs = let r = c .before .before in
     let l = r .before .before .before in
     let s = l .before .before .before in
-    let e : runSum (s .args .weights .now) (choicesBefore (s .args .b .now) (l .loop .i)) 1 (size (s .args .b .now) (l .loop .i)) ≤ maxFullWeight = omega (arith, run r, c .before .if1 .left, s .pre .1 .1) in
+    let e : runSum (s .args .weights .now) (choicesBefore (shapeOf (s .args .b .now)) (l .loop .i)) 1 (size (s .args .b .now) (l .loop .i)) ≤ maxFullWeight = omega (arith, run r, c .before .if1 .left, s .pre .1 .1) in
     rw (l .loop .inv .2, c .choice-place .ensures, r .before .size .ensures) (train-weights (s .pre .0) (s .pre .1 .0) (l .loop .i) (omega arith) e)
 
 -- the call answers for train i

@@ -6,8 +6,8 @@ use Prim.Native.Nat.{_-_, _≤_, max}
 use native.Mathlib.Omega.{arith}
 use lib.Dec.{ltb}
 use lib.ListN.{length, getD}
-use Rattle.tables.specs.Range.{all}
-use Rattle.tables.proofs.Range.{all-zero, all-next}
+use Rattle.theory.specs.Range.{all}
+use Rattle.theory.proofs.Range.{all-zero, all-next}
 use Rattle.frames.specs.Digits.{noDigit}
 use Rattle.frames.specs.Frames.{isDigit}
 use Rattle.frames.proofs.Bytes.{digit-below, both-below, all-digits}

@@ -2,8 +2,8 @@
 use borrow.Author.Needs.{needs}
 use mathlib.Core.Path.{_∙_}
 use lib.ListN.{length}
+use Rattle.theory.proofs.Lists.{list-length, paste-all}
 use Rattle.frames.specs.Runs.{runOf}
-use Rattle.frames.proofs.Lists.{list-length, paste-all}
 use Rattle.frames.proofs.runs.decode.Statement.{statement}
 use Rattle.frames.proofs.runs.decode.Tie as tie
 

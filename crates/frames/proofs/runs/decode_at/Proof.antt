@@ -5,10 +5,10 @@ use Prim.Native.Nat.{_+_, _*_, _-_, _≤_}
 use native.Mathlib.Omega.{arith}
 use lib.ListN.{length}
 use lib.Seq.{paste, paste-zero}
-use Rattle.tables.proofs.Sum.{part-inside}
+use Rattle.theory.proofs.Sum.{part-inside}
+use Rattle.theory.proofs.Lists.{paste-more}
 use Rattle.frames.specs.Fields.{field}
 use Rattle.frames.specs.Runs.{runOf}
-use Rattle.frames.proofs.Lists.{paste-more}
 use Rattle.frames.proofs.runs.decode_at.Statement.{statement}
 use Rattle.frames.proofs.runs.decode_at.Tie as tie
 

@@ -6,12 +6,12 @@ use native.Mathlib.Omega.{arith}
 use lib.IntN.{pos}
 use lib.ListN.{length}
 use lib.Seq.{paste, paste-zero}
-use Rattle.tables.proofs.Sum.{part-inside}
+use Rattle.theory.proofs.Sum.{part-inside}
+use Rattle.theory.proofs.Lists.{list-length, paste-next, paste-all}
 use Rattle.frames.specs.Fields.{field, signedField}
 use Rattle.frames.specs.Runs.{signedRunOf}
 use Rattle.frames.proofs.Bytes.{framed-whole}
 use Rattle.frames.proofs.Widths.{field-below, signed-back}
-use Rattle.frames.proofs.Lists.{list-length, paste-next, paste-all}
 use Rattle.frames.proofs.runs.decode_signed.Statement.{statement}
 use Rattle.frames.proofs.runs.decode_signed.Tie as tie
 

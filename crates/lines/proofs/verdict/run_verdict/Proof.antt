@@ -4,10 +4,10 @@ use mathlib.Core.Path.{_≡_, sym, ap, _∙_}
 use Prim.Native.Nat.{_*_, _-_, _≤_, _^_}
 use native.Mathlib.Nat.{mul-le-mul}
 use native.Mathlib.Omega.{arith}
-use Rattle.lines.specs.declared.request.Verdict.the-variants.{Fine}
+use Rattle.refusals.specs.declared.Verdict.the-variants.{Fine}
+use Rattle.refusals.proofs.Verdicts.{went-on, first-none, first-more, stopped}
 use Rattle.lines.specs.Layout.{further}
 use Rattle.lines.specs.Verdicts.{fieldVerdict, runVerdict}
-use Rattle.lines.proofs.Judged.{went-on, first-none, first-more, stopped}
 use Rattle.lines.proofs.verdict.run_verdict.Statement.{statement}
 use Rattle.lines.proofs.verdict.run_verdict.Tie as tie
 

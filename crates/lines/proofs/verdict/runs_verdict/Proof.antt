@@ -1,10 +1,10 @@
 -- The first run is judged, then the second, then the end.
 use borrow.Author.Needs.{needs}
 use mathlib.Core.Path.{_≡_, ap, _∙_}
-use Rattle.lines.specs.declared.request.Field.{Field}
-use Rattle.lines.specs.declared.request.Verdict.the-variants.{Fine}
+use Rattle.refusals.specs.declared.Verdict.the-variants.{Fine}
+use Rattle.refusals.proofs.Verdicts.{went-on, declined}
+use Rattle.lines.specs.declared.field.Field.{Field}
 use Rattle.lines.specs.Verdicts.{runVerdict, endVerdict, runsVerdict}
-use Rattle.lines.proofs.Judged.{went-on, declined}
 use Rattle.lines.proofs.verdict.runs_verdict.Statement.{statement}
 use Rattle.lines.proofs.verdict.runs_verdict.Tie as tie
 

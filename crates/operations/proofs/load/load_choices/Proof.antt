@@ -4,16 +4,18 @@ use mathlib.Core.Path.{_≡_, refl, sym, _∙_}
 use Prim.Native.Nat.{_-_, _≤_}
 use native.Mathlib.Omega.{arith}
 use lib.ListN.{length}
-use Rattle.tables.specs.Numbers.{nth, choiceStart}
-use Rattle.tables.proofs.Sum.{sum-none, sum-more, sum-part}
-use Rattle.operations.specs.Fold.{iter}
-use Rattle.operations.proofs.Fold.{iter-zero, iter-more}
+use Rattle.theory.specs.Fold.{iter}
+use Rattle.theory.specs.Lists.{nth}
+use Rattle.theory.proofs.Sum.{sum-none, sum-more, sum-part}
+use Rattle.theory.proofs.Fold.{iter-zero, iter-more}
+use Rattle.tables.specs.Counts.{choicesBefore}
+use Rattle.operations.specs.Load.{trainsShape}
 use Rattle.operations.proofs.LoadTurns.{trainTurn, run-at}
 use Rattle.operations.proofs.load.load_choices.Statement.{statement}
 use Rattle.operations.proofs.load.load_choices.Tie as tie
 
 abbrev Inv-loop : tie.InvT-loop
-Inv-loop b₀ scale sizes choices start₀ i₀ b start i = (i ≤ length sizes) × (length b ≡ length b₀) × (start ≡ choiceStart sizes i) × (b ≡ iter i (trainTurn (scale .0) sizes choices) b₀)
+Inv-loop b₀ scale sizes choices start₀ i₀ b start i = (i ≤ length sizes) × (length b ≡ length b₀) × (start ≡ choicesBefore (trainsShape sizes) i) × (b ≡ iter i (trainTurn (scale .0) (trainsShape sizes) choices) b₀)
 
 abbrev μ-loop : tie.MeasureT-loop
 μ-loop b₀ scale sizes choices start₀ i₀ b start i = length sizes - i
@@ -63,7 +65,7 @@ loop-again c =
       search needs,
       omega (arith, sum-more i (nth (a .sizes .now))),
       run-at (a .scale .0) (a .choices .now) (nth (a .sizes .now) i) (c .before .load-run .ensures) (l .loop .inv .2) (c .before .before .before .before .choice-place .ensures) (c .before .before .before .choice-place2 .ensures) (l .loop .inv .3)
-          ∙ sym (iter-more i (trainTurn (a .scale .0) (a .sizes .now) (a .choices .now)) (a .b .now)),
+          ∙ sym (iter-more i (trainTurn (a .scale .0) (trainsShape (a .sizes .now)) (a .choices .now)) (a .b .now)),
     )
 
 same-length : tie.Need-same-length Inv-loop μ-loop

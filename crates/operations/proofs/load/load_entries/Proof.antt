@@ -1,22 +1,24 @@
 -- Each turn stores the costs of one pair, and the next pair's costs begin where they end.
 use borrow.Author.Needs.{needs}
 use mathlib.Core.Path.{_≡_, refl, sym, _∙_}
-use mathlib.Core.List.{List}
-use Prim.Native.Nat.{ℕ, _+_, _*_, _-_, _<_, _≤_}
+use Prim.Native.Nat.{_+_, _-_, _<_, _≤_}
 use native.Mathlib.Omega.{arith}
 use lib.ListN.{length}
 use native.Mathlib.Nat.{mul-le-mul}
+use Rattle.theory.specs.Fold.{iter}
+use Rattle.theory.specs.Lists.{nth}
+use Rattle.theory.proofs.Sum.{sum-none, sum-more, sum-part}
+use Rattle.theory.proofs.Fold.{iter-zero, iter-more}
 use Rattle.tables.specs.Block.{maxChoices}
-use Rattle.tables.specs.Numbers.{nth, lanesOf, entryStart}
-use Rattle.tables.proofs.Sum.{sum-none, sum-more, sum-part}
-use Rattle.operations.specs.Fold.{iter}
-use Rattle.operations.proofs.Fold.{iter-zero, iter-more}
+use Rattle.tables.specs.Numbers.{listShape}
+use Rattle.tables.specs.Plans.{Shape}
+use Rattle.tables.specs.Counts.{rowsOf, columnsOf, pairEntries, entriesBefore}
 use Rattle.operations.proofs.LoadTurns.{entriesTurn, pair-at}
 use Rattle.operations.proofs.load.load_entries.Statement.{statement}
 use Rattle.operations.proofs.load.load_entries.Tie as tie
 
 abbrev Inv-loop : tie.InvT-loop
-Inv-loop b₀ scale sizes firsts seconds entries start₀ k₀ b start k = (k ≤ length firsts) × (length b ≡ length b₀) × (start ≡ entryStart sizes firsts seconds k) × (b ≡ iter k (entriesTurn (scale .0) sizes firsts seconds entries) b₀)
+Inv-loop b₀ scale sizes firsts seconds entries start₀ k₀ b start k = (k ≤ length firsts) × (length b ≡ length b₀) × (start ≡ entriesBefore (listShape sizes firsts seconds) k) × (b ≡ iter k (entriesTurn (scale .0) (listShape sizes firsts seconds) entries) b₀)
 
 abbrev μ-loop : tie.MeasureT-loop
 μ-loop b₀ scale sizes firsts seconds entries start₀ k₀ b start k = length firsts - k
@@ -24,20 +26,21 @@ abbrev μ-loop : tie.MeasureT-loop
 loop-holds : tie.Need-loop-holds Inv-loop μ-loop
 loop-holds c = (omega arith, refl, sym (sum-none _), sym (iter-zero _ _))
 
-abbrev costs : (sizes firsts seconds : List ℕ) → ℕ → ℕ
-costs sizes firsts seconds j = lanesOf sizes firsts j * lanesOf sizes seconds j
-
 -- where the function begins
 abbrev begin : tie.In-loop Inv-loop μ-loop → tie.Start Inv-loop μ-loop
 begin c = c .before .before .before .before .before .before
+
+-- the shape of the study
+abbrev shape : tie.Start Inv-loop μ-loop → Shape
+shape s = listShape (s .args .sizes .now) (s .args .firsts .now) (s .args .seconds .now)
 
 -- the trains of pair k are there, and so are its costs
 known : (c : tie.In-loop Inv-loop μ-loop)
     → (nth (begin c .args .firsts .now) (c .before .loop .k) < length (begin c .args .sizes .now))
     × (nth (begin c .args .seconds .now) (c .before .loop .k) < length (begin c .args .sizes .now))
-    × (lanesOf (begin c .args .sizes .now) (begin c .args .firsts .now) (c .before .loop .k) ≤ maxChoices)
-    × (lanesOf (begin c .args .sizes .now) (begin c .args .seconds .now) (c .before .loop .k) ≤ maxChoices)
-    × (c .before .loop .start + costs (begin c .args .sizes .now) (begin c .args .firsts .now) (begin c .args .seconds .now) (c .before .loop .k) ≤ length (begin c .args .entries .now))
+    × (rowsOf (shape (begin c)) (c .before .loop .k) ≤ maxChoices)
+    × (columnsOf (shape (begin c)) (c .before .loop .k) ≤ maxChoices)
+    × (c .before .loop .start + pairEntries (shape (begin c)) (c .before .loop .k) ≤ length (begin c .args .entries .now))
 known c =
     let s = begin c in
     let k = c .before .loop .k in
@@ -47,7 +50,7 @@ known c =
       second,
       s .pre .0 .2 .small _ first,
       s .pre .0 .2 .small _ second,
-      omega (arith, sum-part (length (s .args .firsts .now)) k (costs (s .args .sizes .now) (s .args .firsts .now) (s .args .seconds .now)) (c .loop-test .taken)),
+      omega (arith, sum-part (length (s .args .firsts .now)) k (pairEntries (shape s)) (c .loop-test .taken)),
     )
 
 mul-rows : tie.Need-mul-rows Inv-loop μ-loop
@@ -95,13 +98,14 @@ loop-less c = search needs
 loop-again : tie.Need-loop-again Inv-loop μ-loop
 loop-again c =
     let l = c .before .before .before .before .before .before .before .before in
-    let a = l .before .before .before .before .before .args in
+    let s = l .before .before .before .before .before in
+    let a = s .args in
     let k = l .loop .k in (
       omega arith,
       search needs,
-      omega (arith, sum-more k (costs (a .sizes .now) (a .firsts .now) (a .seconds .now))),
-      pair-at (a .scale .0) (a .entries .now) (lanesOf (a .sizes .now) (a .firsts .now) k) (lanesOf (a .sizes .now) (a .seconds .now) k) k (c .before .load-pair .ensures) (l .loop .inv .2) (l .loop .inv .3)
-          ∙ sym (iter-more k (entriesTurn (a .scale .0) (a .sizes .now) (a .firsts .now) (a .seconds .now) (a .entries .now)) (a .b .now)),
+      omega (arith, sum-more k (pairEntries (shape s))),
+      pair-at (a .scale .0) (a .entries .now) (rowsOf (shape s) k) (columnsOf (shape s) k) k (c .before .load-pair .ensures) (l .loop .inv .2) (l .loop .inv .3)
+          ∙ sym (iter-more k (entriesTurn (a .scale .0) (shape s) (a .entries .now)) (a .b .now)),
     )
 
 same-length : tie.Need-same-length Inv-loop μ-loop

@@ -4,9 +4,9 @@ use mathlib.Core.Path.{_≡_, refl, sym, _∙_}
 use Prim.Native.Nat.{_+_, _*_, _-_, _≤_}
 use native.Mathlib.Omega.{arith}
 use lib.ListN.{length}
-use Rattle.tables.proofs.Sum.{row-part}
-use Rattle.operations.specs.Fold.{iter}
-use Rattle.operations.proofs.Fold.{iter-zero, iter-more}
+use Rattle.theory.specs.Fold.{iter}
+use Rattle.theory.proofs.Sum.{row-part}
+use Rattle.theory.proofs.Fold.{iter-zero, iter-more}
 use Rattle.operations.proofs.LoadTurns.{rowTurn, run-at}
 use Rattle.operations.proofs.load.load_pair.Statement.{statement}
 use Rattle.operations.proofs.load.load_pair.Tie as tie

@@ -5,11 +5,11 @@ use Prim.Native.Nat.{_+_, _*_, _-_, _≤_}
 use native.Mathlib.Omega.{arith}
 use lib.ListN.{length}
 use native.Mathlib.Nat.{mul-le-mul}
+use Rattle.theory.specs.Fold.{iter}
+use Rattle.theory.specs.Lists.{nth}
+use Rattle.theory.proofs.Fold.{iter-zero}
 use Rattle.units.specs.declared.Parts.{Parts}
 use Rattle.tables.specs.Block.{maxCost}
-use Rattle.tables.specs.Numbers.{nth}
-use Rattle.operations.specs.Fold.{iter}
-use Rattle.operations.proofs.Fold.{iter-zero}
 use Rattle.operations.proofs.LoadTurns.{runTurn, run-more}
 use Rattle.operations.proofs.load.load_run.Statement.{statement}
 use Rattle.operations.proofs.load.load_run.Tie as tie

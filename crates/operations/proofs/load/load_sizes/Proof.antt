@@ -4,8 +4,8 @@ use mathlib.Core.Path.{_≡_, refl, sym}
 use Prim.Native.Nat.{_-_, _≤_}
 use native.Mathlib.Omega.{arith}
 use lib.ListN.{length}
-use Rattle.operations.specs.Fold.{iter}
-use Rattle.operations.proofs.Fold.{iter-zero, iter-more}
+use Rattle.theory.specs.Fold.{iter}
+use Rattle.theory.proofs.Fold.{iter-zero, iter-more}
 use Rattle.operations.proofs.LoadTurns.{sizeTurn}
 use Rattle.operations.proofs.load.load_sizes.Statement.{statement}
 use Rattle.operations.proofs.load.load_sizes.Tie as tie

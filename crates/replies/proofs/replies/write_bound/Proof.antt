@@ -1,12 +1,11 @@
--- The constant and the scale of a study are in range, so the bound can be taken; three fields, one after the other, are the reply.
+-- The constant and the scale of a study are in range, so the bound can be taken; the numbers are the reply's.
 use borrow.Author.Needs.{needs}
-use mathlib.Core.Path.{refl, ap, ap₂, _∙_}
+use mathlib.Core.Path.{ap, ap₂, _∙_}
 use native.Mathlib.Omega.{arith}
 use Rattle.units.specs.declared.Points.{Points}
 use Rattle.units.specs.Units.{roundedUp}
 use Rattle.tables.proofs.Study.{scale-range, constant-range}
-use Rattle.replies.proofs.Writing.{wrote-none, wrote-field, wrote-as}
-use Rattle.replies.proofs.ReplyFields.{bound-fields}
+use Rattle.replies.specs.Replies.{boundReply}
 use Rattle.replies.proofs.replies.write_bound.Statement.{statement}
 use Rattle.replies.proofs.replies.write_bound.Tie as tie
 
@@ -14,18 +13,15 @@ constant-requires : tie.Need-constant-requires
 constant-requires c κs = search needs
 
 scale-requires : tie.Need-scale-requires
-scale-requires c κs = let s = c .before .before .pre .2 in (s .whole, scale-range s .0, scale-range s .1)
+scale-requires c κs = let s = c .before .before .pre .1 in (s .whole, scale-range s .0, scale-range s .1)
 
 bound-requires : tie.Need-bound-requires
 bound-requires c κs =
-    let s = c .before .before .before .pre .2 in
+    let s = c .before .before .before .pre .1 in
     (record { low = omega (arith, c .scale .ensures, scale-range s); high = omega (arith, c .scale .ensures, scale-range s) }, omega (arith, c .before .constant .ensures, constant-range s))
 
-add-put-field : tie.Need-add-put-field
-add-put-field c = search needs
-
-put-field-requires : tie.Need-put-field-requires
-put-field-requires c κs = search needs
+reply-kind-requires : tie.Need-reply-kind-requires
+reply-kind-requires c κs = search needs
 
 number-requires : tie.Need-number-requires
 number-requires c κs = search needs
@@ -33,28 +29,26 @@ number-requires c κs = search needs
 number-requires-2 : tie.Need-number-requires-2
 number-requires-2 c κs = search needs
 
-put-field-requires-2 : tie.Need-put-field-requires-2
-put-field-requires-2 c κs = search needs
+slice-aggregate-put-fields : tie.Need-slice-aggregate-put-fields
+slice-aggregate-put-fields c = search needs
 
-put-field-requires-3 : tie.Need-put-field-requires-3
-put-field-requires-3 c κs = search needs
+slice-aggregate-put-fields-2 : tie.Need-slice-aggregate-put-fields-2
+slice-aggregate-put-fields-2 c = search needs
+
+put-fields-requires : tie.Need-put-fields-requires
+put-fields-requires c κs = search needs
 
 same-length : tie.Need-same-length
 same-length c = search needs
 
 returns : tie.Need-returns
+unfolding boundReply
 returns c =
-    let p3 = c .before .before in
-    let n2 = p3 .before in
-    let p2 = n2 .before .before .before .before in
-    let n1 = p2 .before in
-    let p1 = n1 .before .before .before .before in
-    let d = p1 .before .before in
-    let s = d .before .before .before .before in
-    let constant = n1 .number .ensures ∙ d .before .before .constant .ensures in
-    let bound = n2 .number2 .ensures ∙ ap (λ (p : Points). p .0) (d .bound .ensures) ∙ ap₂ roundedUp (d .before .scale .ensures) (d .before .before .constant .ensures) in
-    wrote-as (wrote-field (wrote-field (wrote-field wrote-none 1 refl (p1 .put-field .ensures)) 6 constant (p2 .put-field2 .ensures)) 6 bound (p3 .put-field3 .ensures))
-    (bound-fields (s .args .kind) (s .args .block .now))
+    let n = c .before .before .before .before .before .before in
+    let d = n .before .before .before in
+    let constant = n .before .number .ensures ∙ d .before .before .constant .ensures in
+    let bound = n .number2 .ensures ∙ ap (λ (p : Points). p .0) (d .bound .ensures) ∙ ap₂ roundedUp (d .before .scale .ensures) (d .before .before .constant .ensures) in
+    rw (n .before .before .reply-kind .ensures, constant, bound) at (c .before .before .put-fields .ensures)
 
 pub write-bound-spec : {M : Type 1} → statement M
 write-bound-spec =
@@ -63,11 +57,11 @@ write-bound-spec =
     constant-requires
     scale-requires
     bound-requires
-    add-put-field
-    put-field-requires
+    reply-kind-requires
     number-requires
-    put-field-requires-2
     number-requires-2
-    put-field-requires-3
+    slice-aggregate-put-fields
+    slice-aggregate-put-fields-2
+    put-fields-requires
     same-length
     returns)

@@ -1,19 +1,20 @@
 -- The invariant: the choices of the first i trains are written behind the front. A turn writes one more field.
 use borrow.Author.Needs.{needs}
 use mathlib.Core.Path.{_≡_, sym}
-use mathlib.Core.List.{_++_, append-nil}
+use mathlib.Core.List.{[], _++_, append-nil}
 use Prim.Native.Nat.{_+_, _*_, _-_, _≤_}
 use native.Mathlib.Omega.{arith}
 use lib.ListN.{length, take}
-use Rattle.replies.specs.Replies.{planDigits, shownChoice}
+use Rattle.frames.specs.Runs.{runDigits}
+use Rattle.frames.proofs.RunDigits.{run-none, run-turn}
+use Rattle.replies.specs.Replies.{choiceWidth, shownChoice}
 use Rattle.replies.specs.Wrote.{Wrote}
 use Rattle.replies.proofs.Writing.{wrote-field, wrote-as, wrote-front}
-use Rattle.replies.proofs.ReplyFields.{plan-none, plan-more}
 use Rattle.replies.proofs.replies.write_plan.Statement.{statement}
 use Rattle.replies.proofs.replies.write_plan.Tie as tie
 
 abbrev Inv-loop : tie.InvT-loop
-Inv-loop reply₀ from n f at₀ i₀ reply at i = (i ≤ n) × (at ≡ from + 2 * i) × (length reply ≡ length reply₀) × Wrote reply₀ (take from reply₀ ++ planDigits 0 i (shownChoice f)) reply at
+Inv-loop reply₀ from n f at₀ i₀ reply at i = (i ≤ n) × (at ≡ from + 2 * i) × (length reply ≡ length reply₀) × Wrote reply₀ (take from reply₀ ++ runDigits choiceWidth i (shownChoice f) []) reply at
 
 abbrev μ-loop : tie.MeasureT-loop
 μ-loop reply₀ from n f at₀ i₀ reply at i = n - i
@@ -24,7 +25,7 @@ loop-holds c =
       omega arith,
       omega arith,
       search needs,
-      wrote-as (wrote-front (s .args .reply .now) (s .args .from) (omega arith)) (sym (rw (plan-none (shownChoice (s .args .f))) (append-nil (take (s .args .from) (s .args .reply .now))))),
+      wrote-as (wrote-front (s .args .reply .now) (s .args .from) (omega arith)) (sym (rw (run-none choiceWidth (shownChoice (s .args .f)) []) (append-nil (take (s .args .from) (s .args .reply .now))))),
     )
 
 shown-choice-requires : tie.Need-shown-choice-requires Inv-loop μ-loop
@@ -46,7 +47,7 @@ loop-again c =
       omega arith,
       omega (arith, c .before .before .put-field .ensures .0),
       search needs,
-      wrote-as (wrote-field (l .loop .inv .3) 1 (c .before .before .before .shown-choice .ensures) (c .before .before .put-field .ensures)) (plan-more (take (s .args .from) (s .args .reply .now)) (l .loop .i) (shownChoice (s .args .f))),
+      wrote-as (wrote-field (l .loop .inv .3) choiceWidth (c .before .before .before .shown-choice .ensures) (c .before .before .put-field .ensures)) (run-turn (take (s .args .from) (s .args .reply .now)) choiceWidth (l .loop .i) (shownChoice (s .args .f))),
     )
 
 same-length : tie.Need-same-length Inv-loop μ-loop

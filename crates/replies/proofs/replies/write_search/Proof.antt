@@ -1,59 +1,56 @@
--- Four fields and the plan, one after the other, are the reply.
+-- The numbers are those of the reply's fields, and the plan is written behind them.
 use borrow.Author.Needs.{needs}
 use mathlib.Core.Path.{refl}
-use Rattle.replies.specs.Replies.{planDigits, shownChoice}
-use Rattle.replies.proofs.Writing.{wrote-none, wrote-field, wrote-through, wrote-as}
-use Rattle.replies.proofs.ReplyFields.{search-fields}
+use mathlib.Core.List.{[]}
+use native.Mathlib.Omega.{arith}
+use Rattle.replies.specs.Replies.{searchWidths, planDigits, searchReply}
+use Rattle.replies.proofs.Writing.{wrote-as, wrote-through}
+use Rattle.replies.proofs.ReplyFields.{fields-first, fields-end}
 use Rattle.replies.proofs.replies.write_search.Statement.{statement}
 use Rattle.replies.proofs.replies.write_search.Tie as tie
 
-add-put-field : tie.Need-add-put-field
-add-put-field c = search needs
-
-put-field-requires : tie.Need-put-field-requires
-put-field-requires c κs = search needs
+reply-kind-requires : tie.Need-reply-kind-requires
+reply-kind-requires c κs = search needs
 
 flag-requires : tie.Need-flag-requires
 flag-requires c κs = search needs
 
-put-field-requires-2 : tie.Need-put-field-requires-2
-put-field-requires-2 c κs = search needs
-
-put-field-requires-3 : tie.Need-put-field-requires-3
-put-field-requires-3 c κs = search needs
-
 shown-cost-requires : tie.Need-shown-cost-requires
 shown-cost-requires c κs = search needs
 
-put-field-requires-4 : tie.Need-put-field-requires-4
-put-field-requires-4 c κs = search needs
+slice-aggregate-put-fields : tie.Need-slice-aggregate-put-fields
+slice-aggregate-put-fields c = search needs
+
+slice-aggregate-put-fields-2 : tie.Need-slice-aggregate-put-fields-2
+slice-aggregate-put-fields-2 c = search needs
+
+put-fields-requires : tie.Need-put-fields-requires
+put-fields-requires c κs = search needs
 
 write-plan-requires : tie.Need-write-plan-requires
-write-plan-requires c κs = search needs
+write-plan-requires c κs = omega (arith, fields-end searchWidths _ refl (c .before .before .before .put-fields .ensures))
 
 same-length : tie.Need-same-length
 same-length c = search needs
 
 returns : tie.Need-returns
+unfolding searchReply
 returns c =
-    let s = c .before .before .before .before .before .before .before .before .before .before .before .before .before .before .before .before .before .before .before .before .before .before .before in
-    wrote-as
-    (wrote-through
-    (wrote-field (wrote-field (wrote-field (wrote-field wrote-none 1 refl (c .before .before .before .before .before .before .before .before .before .before .before .before .before .before .before .before .before .before .before .before .put-field .ensures)) 1 (c .before .before .before .before .before .before .before .before .before .before .before .before .before .before .before .before .flag .ensures) (c .before .before .before .before .before .before .before .before .before .before .before .before .before .before .before .put-field2 .ensures)) 4 refl (c .before .before .before .before .before .before .before .before .before .before .before .put-field3 .ensures)) 6 (c .before .before .before .before .before .before .before .shown-cost .ensures) (c .before .before .before .before .before .before .put-field4 .ensures))
-    (planDigits 0 (s .args .n) (shownChoice (s .args .f))) (c .before .before .write-plan .ensures))
-    (search-fields (s .args .f) (s .args .n))
+    let n = c .before .before .before .before .before .before .before .before .before .before in
+    let a = n .before .before .before .before .args in
+    let fields = rw (n .before .before .reply-kind .ensures, n .before .flag .ensures, n .shown-cost .ensures) at (c .before .before .before .before .before .before .put-fields .ensures) in
+    wrote-as (wrote-through fields (planDigits (a .n) (a .f)) (c .before .before .write-plan .ensures)) (fields-first searchWidths _ [] _)
 
 pub write-search-spec : {M : Type 1} → statement M
 write-search-spec =
     tie.close
     (tie.spec
-    add-put-field
-    put-field-requires
+    reply-kind-requires
     flag-requires
-    put-field-requires-2
-    put-field-requires-3
     shown-cost-requires
-    put-field-requires-4
+    slice-aggregate-put-fields
+    slice-aggregate-put-fields-2
+    put-fields-requires
     write-plan-requires
     same-length
     returns)

@@ -1,8 +1,8 @@
 -- A study stays one, so its bound can be written; a declined addition leaves the block.
 use borrow.Author.Needs.{needs}
-use native.Mathlib.Omega.{arith}
-use Rattle.operations.specs.Add.{addOutcome, addBlock}
-use Rattle.operations.proofs.Added.{add-declined, add-study}
+use Rattle.operations.specs.Add.{added, addOutcome}
+use Rattle.operations.proofs.Added.{add-study}
+use Rattle.lines.specs.declared.kind.Kind.the-variants as kind
 use Rattle.requests.proofs.Outcomes.{operated-answers}
 use Rattle.requests.proofs.add_line.answer_add.Statement.{statement}
 use Rattle.requests.proofs.add_line.answer_add.Tie as tie
@@ -14,7 +14,7 @@ write-outcome-requires : tie.Need-write-outcome-requires
 write-outcome-requires c κs =
     let s = c .before .before .before .before .before .before .before in
     let q = s .args .q in
-    (search needs, omega arith, rw (c .before .before .before .add .ensures .1) (add-study (s .pre .1 .study) (q .train) (q .choice) (q .points .0) (s .pre .1 .train) (s .pre .1 .choice)))
+    (search needs, rw (c .before .before .before .add .ensures .1) (add-study (s .pre .1 .study) (q .train) (q .choice) (q .points .0) (s .pre .1 .train) (s .pre .1 .choice)))
 
 same-length : tie.Need-same-length
 same-length c = search needs
@@ -26,8 +26,8 @@ returns : tie.Need-returns
 returns c =
     let a = c .before .before .before .before .before .before .before .before .before .before .args in
     let q = a .q in
-    operated-answers 2 (addOutcome (q .train) (q .choice) (q .points .0) (a .block .now)) (a .block .now) (addBlock (q .train) (q .choice) (q .points .0) (a .block .now))
-    (c .before .before .before .before .before .before .add .ensures .0) (c .before .before .before .before .before .before .add .ensures .1) (add-declined (q .train) (q .choice) (q .points .0) (a .block .now)) (c .before .before .write-outcome .ensures)
+    operated-answers kind.Add (addOutcome (q .train) (q .choice) (q .points .0) (a .block .now)) (a .block .now) (added (q .train) (q .choice) (q .points .0) (a .block .now))
+    (c .before .before .before .before .before .before .add .ensures .0) (c .before .before .before .before .before .before .add .ensures .1) (c .before .before .write-outcome .ensures)
 
 pub answer-add-spec : {M : Type 1} → statement M
 answer-add-spec =

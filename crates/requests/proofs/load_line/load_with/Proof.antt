@@ -40,7 +40,7 @@ write-bound-requires c κs =
     let s = f .before .before .before .before .before .before .before .before .before in
     let r = load-ready (s .pre .0) in
     let e = load-numbers r refl (s .pre .1 .0 .0) (s .pre .1 .0 .1) (f .decode .ensures) (d .decode2 .ensures) (p .decode-pairs .ensures .0) (p .decode-pairs .ensures .1 .0) (p .decode-pairs .ensures .1 .1) in
-    (search needs, omega arith, loaded-study r e (c .before .before .before .load .ensures))
+    (search needs, loaded-study r e (c .before .before .before .load .ensures))
 
 same-length : tie.Need-same-length
 same-length c = search needs

@@ -1,4 +1,4 @@
--- Each outcome has its reply.
+-- Done, the bound of the block; declined, the reason.
 use borrow.Author.Needs.{needs}
 use Rattle.requests.proofs.outcome.write_outcome.Statement.{statement}
 use Rattle.requests.proofs.outcome.write_outcome.Tie as tie
@@ -9,17 +9,11 @@ enum-told c = search needs
 write-bound-requires : tie.Need-write-bound-requires
 write-bound-requires c κs = search needs
 
-enum-told-2 : tie.Need-enum-told-2
-enum-told-2 c = search needs
+enum-known-outcome : tie.Need-enum-known-outcome
+enum-known-outcome c = search needs
 
 write-refusal-requires : tie.Need-write-refusal-requires
 write-refusal-requires c κs = search needs
-
-enum-told-3 : tie.Need-enum-told-3
-enum-told-3 c = search needs
-
-write-refusal-requires-2 : tie.Need-write-refusal-requires-2
-write-refusal-requires-2 c κs = search needs
 
 same-length : tie.Need-same-length
 same-length c = search needs
@@ -31,13 +25,7 @@ same-length-2 : tie.Need-same-length-2
 same-length-2 c = search needs
 
 returns-2 : tie.Need-returns-2
-returns-2 c = rw (c .before .before .before .before .enum-told2 .given .1) (c .before .before .write-refusal .ensures)
-
-same-length-3 : tie.Need-same-length-3
-same-length-3 c = search needs
-
-returns-3 : tie.Need-returns-3
-returns-3 c = rw (c .before .before .before .before .enum-told3 .given .1) (c .before .before .write-refusal2 .ensures)
+returns-2 c = rw (c .before .before .before .before .before .outcome .given .1) (c .before .before .write-refusal .ensures)
 
 pub write-outcome-spec : {M : Type 1} → statement M
 write-outcome-spec =
@@ -45,13 +33,9 @@ write-outcome-spec =
     (tie.spec
     enum-told
     write-bound-requires
-    enum-told-2
+    enum-known-outcome
     write-refusal-requires
-    enum-told-3
-    write-refusal-requires-2
     same-length
     returns
     same-length-2
-    returns-2
-    same-length-3
-    returns-3)
+    returns-2)

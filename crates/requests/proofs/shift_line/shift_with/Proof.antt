@@ -2,8 +2,9 @@
 use borrow.Author.Needs.{needs}
 use mathlib.Core.Path.{_∙_}
 use native.Mathlib.Omega.{arith}
-use Rattle.shift.proofs.Ends.{shift-study}
-use Rattle.frames.proofs.Lists.{list-length}
+use Rattle.theory.proofs.Lists.{list-length}
+use Rattle.rewriting.proofs.Rewritten.{judged-study}
+use Rattle.shift.proofs.Ends.{shift-rewrites}
 use Rattle.requests.proofs.Ready.{shift-ready}
 use Rattle.requests.proofs.Outcomes.{shift-answers}
 use Rattle.requests.proofs.shift_line.shift_with.Statement.{statement}
@@ -23,7 +24,7 @@ shift-requires c κs =
     ((r .study, list-length _ (s .args .q .lifts .count) ∙ r .lift-count .0, list-length _ (s .args .q .moves .count) ∙ r .move-count .0), (r .lifts, r .moves))
 
 write-outcome-requires : tie.Need-write-outcome-requires
-write-outcome-requires c κs = (search needs, omega arith, rw (c .before .before .before .shift .ensures .1) (shift-study (shift-ready (c .before .before .before .before .before .before .before .before .before .before .before .before .before .before .before .pre .0) .study) _ _))
+write-outcome-requires c κs = (search needs, rw (c .before .before .before .shift .ensures .1) (let s = shift-ready (c .before .before .before .before .before .before .before .before .before .before .before .before .before .before .before .pre .0) .study in judged-study s (shift-rewrites s _ _)))
 
 same-length : tie.Need-same-length
 same-length c = search needs

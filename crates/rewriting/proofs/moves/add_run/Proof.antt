@@ -7,7 +7,7 @@ use lib.ListN.{length}
 use mir.Facts.{toZ-ofZ}
 use mir.Syntax.{w64}
 use mir.Val.{toZ, ofZ}
-use Rattle.operations.proofs.Fold.{iter-zero, iter-more}
+use Rattle.theory.proofs.Fold.{iter-zero, iter-more}
 use Rattle.rewriting.specs.Moves.{runPlace, addAt, addRun}
 use Rattle.rewriting.proofs.Runs.{front, add-room, room-more, run-front}
 use Rattle.rewriting.proofs.moves.add_run.Statement.{statement}

@@ -7,8 +7,8 @@ use native.Mathlib.Omega.{arith}
 use lib.IntN.{ℤ}
 use lib.ListN.{length}
 use Rattle.tables.specs.Block.{pairs, first, second}
+use Rattle.tables.specs.Plans.{choicesOf}
 use Rattle.tables.proofs.Study.{trains-range, pairs-range, size-range, held-entry-high, first-below-trains, second-below-trains}
-use Rattle.rows.specs.Added.{choicesOf}
 use Rattle.rows.specs.Sums.{Summed, Steady, Carrying}
 use Rattle.rows.specs.Links.{sumsLength}
 use Rattle.rows.specs.Table.{beginOf}

@@ -4,8 +4,9 @@ use mathlib.Core.Path.{_≡_, _∙_}
 use Prim.Native.Nat.{_+_, _-_, _*_, _≤_}
 use native.Mathlib.Omega.{arith}
 use lib.ListN.{length}
-use Rattle.tables.specs.Block.{maxChoices, entriesOfPair, heldEntriesFrom, pairs, first}
-use Rattle.tables.proofs.Study.{study-place, pairs-range, size-range, first-below-trains, trains-range}
+use Rattle.tables.specs.Block.{maxChoices, entriesOfPair, heldEntriesFrom, pairs}
+use Rattle.tables.proofs.Study.{study-place, pairs-range}
+use Rattle.tables.proofs.Counting.{rows-range}
 use Rattle.rows.specs.Table.{tableLength, CostsLaid}
 use Rattle.rows.proofs.Laying.{costs-none, costs-more}
 use Rattle.rows.proofs.table.lay_costs.Statement.{statement}
@@ -23,43 +24,32 @@ pairs-requires c κs = c .before .pre .0 .whole
 loop-holds : tie.Need-loop-holds Inv-loop μ-loop
 loop-holds c = (omega arith, c .pairs .ensures, c .before .before .pre .1, costs-none _ _)
 
-first-requires : tie.Need-first-requires Inv-loop μ-loop
-first-requires c κs =
-    let s = c .before .before .before .before in
-    (s .pre .0 .whole, omega (arith, pairs-range (s .pre .0)))
-
-size-requires : tie.Need-size-requires Inv-loop μ-loop
-size-requires c κs =
-    let s = c .before .before .before .before .before in
-    let l = c .before .before .loop in
-    (s .pre .0 .whole, omega (arith, c .first .ensures, first-below-trains (s .pre .0) (l .k) (omega arith), trains-range (s .pre .0)))
+rows-of-requires : tie.Need-rows-of-requires Inv-loop μ-loop
+rows-of-requires c κs = (c .before .before .before .before .pre .0, omega arith)
 
 mul-copy : tie.Need-mul-copy Inv-loop μ-loop
-mul-copy c = omega (arith, pairs-range (c .before .before .before .before .before .before .pre .0))
+mul-copy c = omega (arith, pairs-range (c .before .before .before .before .before .pre .0))
 
 add-copy : tie.Need-add-copy Inv-loop μ-loop
-add-copy c = omega (arith, pairs-range (c .before .before .before .before .before .before .pre .0))
+add-copy c = omega (arith, pairs-range (c .before .before .before .before .before .pre .0))
 
--- a pair has as many rows as its first train has choices
-rows : (c : tie.After-size Inv-loop μ-loop) → c .size .result ≤ maxChoices
-rows c =
-    let s = c .before .before .before .before .before .before in
-    let l = c .before .before .before .loop in
-    omega (arith, rw (c .before .first .ensures) at (c .size .ensures), size-range (s .pre .0) (first (s .args .b .now) (l .k)) (first-below-trains (s .pre .0) (l .k) (omega arith)))
+-- a pair has at most eight rows
+few : (c : tie.After-rows-of Inv-loop μ-loop) → c .rows-of .result ≤ maxChoices
+few c = omega (arith, c .rows-of .ensures, rows-range (c .before .before .before .before .before .pre .0) (c .before .before .loop .k) (omega arith))
 
 mul-copy-2 : tie.Need-mul-copy-2 Inv-loop μ-loop
-mul-copy-2 c = omega (arith, rows c)
+mul-copy-2 c = omega (arith, few c)
 
 mul-copy-3 : tie.Need-mul-copy-3 Inv-loop μ-loop
-mul-copy-3 c = omega (arith, pairs-range (c .before .before .before .before .before .before .before .pre .0))
+mul-copy-3 c = omega (arith, pairs-range (c .before .before .before .before .before .before .pre .0))
 
 copy-requires : tie.Need-copy-requires Inv-loop μ-loop
 copy-requires c κs =
-    let s = c .before .before .before .before .before .before .before in
-    let r = rows (c .before) in
+    let s = c .before .before .before .before .before .before in
+    let r = few (c .before) in
     let q = pairs-range (s .pre .0) in (
       (omega (arith, r, q, s .pre .0 .whole), omega (arith, r, q), omega arith),
-      λ i h. study-place (s .pre .0) (heldEntriesFrom + entriesOfPair * (c .before .before .before .before .loop .k) + i) (omega (arith, r, q)) .natural,
+      λ i h. study-place (s .pre .0) (heldEntriesFrom + entriesOfPair * (c .before .before .before .loop .k) + i) (omega (arith, r, q)) .natural,
     )
 
 add-k : tie.Need-add-k Inv-loop μ-loop
@@ -72,10 +62,10 @@ loop-again : tie.Need-loop-again Inv-loop μ-loop
 loop-again c =
     let d = c .before .before in
     let e = d .before .before in
-    let l = e .before .before .before .loop in
-    let s = e .before .before .before .before .before .before in
+    let l = e .before .before .loop in
+    let s = e .before .before .before .before .before in
     let p = d .copy .ensures in
-    (omega arith, l .inv .1, p .same ∙ l .inv .2, costs-more (s .pre .0) (l .k) (e .size .result) (omega arith) (rw (e .before .first .ensures) at (e .size .ensures)) (l .inv .3) p)
+    (omega arith, l .inv .1, p .same ∙ l .inv .2, costs-more (s .pre .0) (l .k) (e .rows-of .result) (omega arith) (e .rows-of .ensures) (l .inv .3) p)
 
 same-length : tie.Need-same-length Inv-loop μ-loop
 same-length c = c .before .loop .inv .3 .same
@@ -87,4 +77,4 @@ returns c =
     rw e at (l .inv .3)
 
 pub lay-costs-spec : {M : Type 1} → statement M
-lay-costs-spec = tie.close (tie.spec Inv-loop μ-loop pairs-requires loop-holds first-requires size-requires mul-copy add-copy mul-copy-2 mul-copy-3 copy-requires add-k loop-less loop-again same-length returns)
+lay-costs-spec = tie.close (tie.spec Inv-loop μ-loop pairs-requires loop-holds rows-of-requires mul-copy add-copy mul-copy-2 mul-copy-3 copy-requires add-k loop-less loop-again same-length returns)

@@ -2,7 +2,7 @@
 use borrow.Author.Needs.{needs}
 use mathlib.Core.Path.{_≡_, sym, _∙_}
 use mathlib.Core.Bool.{true}
-use Rattle.tables.specs.WellFormed.{fresh, wellFormed}
+use Rattle.tables.specs.WellFormed.{isFresh, wellFormed}
 use Rattle.tables.proofs.Study.{new-block-within, new-block-outside}
 use Rattle.service.proofs.AnswerCases.{fixed-fit}
 use Rattle.service.proofs.Calls.{small-buffer, malformed-block, answered-line}
@@ -17,7 +17,7 @@ abbrev start : tie.After-new → tie.Start
 start n = room n .before .before .before
 
 -- the numbers of a block that was made are well formed, and it says whether they are fresh
-right : (k : tie.After-known) → (wellFormed (start (k .before .before) .args .block .now) ≡ true) × (k .known .given .0 .0 .fresh ≡ fresh (start (k .before .before) .args .block .now))
+right : (k : tie.After-known) → (wellFormed (start (k .before .before) .args .block .now) ≡ true) × (k .known .given .0 .0 .fresh ≡ isFresh (start (k .before .before) .args .block .now))
 right k = new-block-within (start (k .before .before) .args .block .now) (k .known .given .0 .0) (sym (k .before .before .new .ensures) ∙ k .known .given .1)
 
 returns : tie.Need-returns

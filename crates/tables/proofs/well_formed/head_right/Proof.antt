@@ -1,6 +1,6 @@
 -- The four places are asked in order, each by its own limits.
 use borrow.Author.Needs.{needs}
-use Rattle.tables.proofs.Range.{refused, passed}
+use Rattle.theory.proofs.Range.{refused, passed}
 use Rattle.tables.proofs.Rows.{head-places}
 use Rattle.tables.proofs.well_formed.head_right.Statement.{statement}
 use Rattle.tables.proofs.well_formed.head_right.Tie as tie

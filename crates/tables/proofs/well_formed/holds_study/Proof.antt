@@ -3,10 +3,10 @@ use borrow.Author.Needs.{needs}
 use mathlib.Core.Path.{_≡_, sym, _∙_}
 use mathlib.Core.Bool.{true, and-false, and-true}
 use native.Mathlib.Omega.{arith}
+use Rattle.theory.proofs.Range.{refused, passed}
 use Rattle.tables.specs.Block.{maxCost, maxParts, loadedChoicesFrom, heldChoicesFrom, loadedEntriesFrom}
-use Rattle.tables.specs.WellFormed.{from-to, placesRight, pairsRight, holdsStudy}
+use Rattle.tables.specs.WellFormed.{fromTo, placesRight, pairsRight, holdsStudy}
 use Rattle.tables.specs.Rows.{shapeRight, choicesWithin, entriesWithin}
-use Rattle.tables.proofs.Range.{refused, passed}
 use Rattle.tables.proofs.Rows.{places-tables, head-most}
 use Rattle.tables.proofs.well_formed.holds_study.Statement.{statement}
 use Rattle.tables.proofs.well_formed.holds_study.Tie as tie
@@ -44,7 +44,7 @@ returns-3 c =
     let d = n .before .before .before in
     rw (places-tables (d .before .before .args .b .now) (d .before .before .pre), shape d, rw (n .number .ensures) at (refused (c .before .choices-within .ensures) (c .if3 .taken)))
 
-loaded-choices : (c : tie.Else3) → choicesWithin (c .before .before .before .before .before .before .before .args .b .now) loadedChoicesFrom (from-to 0 maxCost) ≡ true
+loaded-choices : (c : tie.Else3) → choicesWithin (c .before .before .before .before .before .before .before .args .b .now) loadedChoicesFrom (fromTo 0 maxCost) ≡ true
 loaded-choices c = rw (c .before .before .number .ensures) at (passed (c .before .choices-within .ensures) (c .if3 .left))
 
 number-requires-2 : tie.Need-number-requires-2
@@ -61,7 +61,7 @@ returns-4 c =
     let d = f .before .before .before .before .before in
     rw (places-tables (d .before .before .args .b .now) (d .before .before .pre), shape d, loaded-choices f, rw (n .number2 .ensures) at (refused (c .before .choices-within2 .ensures) (c .if4 .taken)))
 
-held-choices : (c : tie.Else4) → choicesWithin (c .before .before .before .before .before .before .before .before .before .before .args .b .now) heldChoicesFrom (from-to 0 maxParts) ≡ true
+held-choices : (c : tie.Else4) → choicesWithin (c .before .before .before .before .before .before .before .before .before .before .args .b .now) heldChoicesFrom (fromTo 0 maxParts) ≡ true
 held-choices c = rw (c .before .before .number2 .ensures) at (passed (c .before .choices-within2 .ensures) (c .if4 .left))
 
 number-requires-3 : tie.Need-number-requires-3
@@ -79,7 +79,7 @@ returns-5 c =
     let d = f .before .before .before .before .before in
     rw (places-tables (d .before .before .args .b .now) (d .before .before .pre), shape d, loaded-choices f, held-choices g, rw (n .number3 .ensures) at (refused (c .before .entries-within .ensures) (c .if5 .taken)))
 
-loaded-entries : (c : tie.Else5) → entriesWithin (c .before .before .before .before .before .before .before .before .before .before .before .before .before .args .b .now) loadedEntriesFrom (from-to 0 maxCost) ≡ true
+loaded-entries : (c : tie.Else5) → entriesWithin (c .before .before .before .before .before .before .before .before .before .before .before .before .before .args .b .now) loadedEntriesFrom (fromTo 0 maxCost) ≡ true
 loaded-entries c = rw (c .before .before .number3 .ensures) at (passed (c .before .entries-within .ensures) (c .if5 .left))
 
 number-requires-4 : tie.Need-number-requires-4

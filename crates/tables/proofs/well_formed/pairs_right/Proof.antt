@@ -4,10 +4,10 @@ use mathlib.Core.Path.{_≡_, sym}
 use mathlib.Core.Bool.{true}
 use Prim.Native.Nat.{_-_, _≤_}
 use native.Mathlib.Omega.{arith}
-use Rattle.tables.specs.Range.{all}
+use Rattle.theory.specs.Range.{all}
+use Rattle.theory.proofs.Range.{refused, passed, all-zero, all-more, all-false}
 use Rattle.tables.specs.Block.{pairs}
 use Rattle.tables.specs.WellFormed.{pairRight, pairsRight}
-use Rattle.tables.proofs.Range.{refused, passed, all-zero, all-more, all-false}
 use Rattle.tables.proofs.well_formed.pairs_right.Statement.{statement}
 use Rattle.tables.proofs.well_formed.pairs_right.Tie as tie
 

@@ -1,7 +1,7 @@
 -- A row is its used places, and the others, which are to be 0.
 use borrow.Author.Needs.{needs}
 use borrow.Author.Tests.{not-true, not-false}
-use Rattle.tables.specs.WellFormed.{from-to}
+use Rattle.tables.specs.WellFormed.{fromTo}
 use Rattle.tables.proofs.Rows.{row-split}
 use Rattle.tables.proofs.well_formed.row_within.Statement.{statement}
 use Rattle.tables.proofs.well_formed.row_within.Tie as tie
@@ -13,24 +13,24 @@ returns : tie.Need-returns
 returns c =
     let s = c .before .before in
     let a = s .args in
-    rw (row-split (a .b .now) (a .from) (a .width) (a .used) (from-to (a .low) (a .high)) (s .pre .1), ← c .before .run-within .ensures, not-true (c .before .run-within .result) (c .if1 .taken))
+    rw (row-split (a .b .now) (a .from) (a .width) (a .used) (fromTo (a .low) (a .high)) (s .pre .1), ← c .before .run-within .ensures, not-true (c .before .run-within .result) (c .if1 .taken))
 
-add-zeros : tie.Need-add-zeros
-add-zeros c = search needs
+add-all-zero : tie.Need-add-all-zero
+add-all-zero c = search needs
 
-sub-zeros : tie.Need-sub-zeros
-sub-zeros c = search needs
+sub-all-zero : tie.Need-sub-all-zero
+sub-all-zero c = search needs
 
-zeros-requires : tie.Need-zeros-requires
-zeros-requires c κs = search needs
+all-zero-requires : tie.Need-all-zero-requires
+all-zero-requires c κs = search needs
 
 returns-2 : tie.Need-returns-2
 returns-2 c =
     let d = c .before in
     let s = d .before .before in
     let a = s .args in
-    rw (row-split (a .b .now) (a .from) (a .width) (a .used) (from-to (a .low) (a .high)) (s .pre .1), ← d .before .run-within .ensures, not-false (d .before .run-within .result) (d .if1 .left))
-    (c .zeros .ensures)
+    rw (row-split (a .b .now) (a .from) (a .width) (a .used) (fromTo (a .low) (a .high)) (s .pre .1), ← d .before .run-within .ensures, not-false (d .before .run-within .result) (d .if1 .left))
+    (c .all-zero .ensures)
 
 pub row-within-spec : {M : Type 1} → statement M
 row-within-spec =
@@ -38,7 +38,7 @@ row-within-spec =
     (tie.spec
     run-within-requires
     returns
-    add-zeros
-    sub-zeros
-    zeros-requires
+    add-all-zero
+    sub-all-zero
+    all-zero-requires
     returns-2)

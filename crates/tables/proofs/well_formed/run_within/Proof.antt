@@ -4,14 +4,14 @@ use mathlib.Core.Path.{_≡_, sym}
 use mathlib.Core.Bool.{true}
 use Prim.Native.Nat.{_-_, _≤_}
 use native.Mathlib.Omega.{arith}
-use Rattle.tables.specs.WellFormed.{from-to}
+use Rattle.theory.proofs.Range.{refused, passed, all-zero, all-more, all-false}
+use Rattle.tables.specs.WellFormed.{fromTo}
 use Rattle.tables.specs.Rows.{runWithin}
-use Rattle.tables.proofs.Range.{refused, passed, all-zero, all-more, all-false}
 use Rattle.tables.proofs.well_formed.run_within.Statement.{statement}
 use Rattle.tables.proofs.well_formed.run_within.Tie as tie
 
 abbrev Inv-loop : tie.InvT-loop
-Inv-loop b from count low high k₀ k = (k ≤ count) × (runWithin b from k (from-to low high) ≡ true)
+Inv-loop b from count low high k₀ k = (k ≤ count) × (runWithin b from k (fromTo low high) ≡ true)
 
 abbrev μ-loop : tie.MeasureT-loop
 μ-loop b from count low high k₀ k = count - k

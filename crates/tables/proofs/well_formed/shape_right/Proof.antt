@@ -4,10 +4,10 @@ use borrow.Author.Tests.{not-true, not-false}
 use mathlib.Core.Path.{_≡_}
 use mathlib.Core.Bool.{true}
 use native.Mathlib.Omega.{arith}
+use Rattle.theory.proofs.Range.{refused, passed}
 use Rattle.tables.specs.Block.{maxTrains, maxChoices, sizesFrom, trains}
-use Rattle.tables.specs.WellFormed.{from-to}
+use Rattle.tables.specs.WellFormed.{fromTo}
 use Rattle.tables.specs.Rows.{rowWithin, headRight}
-use Rattle.tables.proofs.Range.{refused, passed}
 use Rattle.tables.proofs.Rows.{shape-rows, head-most}
 use Rattle.tables.proofs.well_formed.shape_right.Statement.{statement}
 use Rattle.tables.proofs.well_formed.shape_right.Tie as tie
@@ -32,7 +32,7 @@ returns-2 c =
     let d = c .before .before .before in
     rw (shape-rows (d .before .before .args .b .now), head d, ← c .before .before .trains .ensures, ← c .before .row-within .ensures, not-true (c .before .row-within .result) (c .if2 .taken))
 
-sizes : (c : tie.Else2) → rowWithin (c .before .before .before .before .before .args .b .now) sizesFrom maxTrains (trains (c .before .before .before .before .before .args .b .now)) (from-to 1 maxChoices) ≡ true
+sizes : (c : tie.Else2) → rowWithin (c .before .before .before .before .before .args .b .now) sizesFrom maxTrains (trains (c .before .before .before .before .before .args .b .now)) (fromTo 1 maxChoices) ≡ true
 sizes c = rw (← c .before .before .trains .ensures) (passed (c .before .row-within .ensures) (c .if2 .left))
 
 pairs-requires : tie.Need-pairs-requires

@@ -12,8 +12,8 @@ returns : tie.Need-returns
 unfolding wellFormed
 returns c = rw (ne-eqb _ _ (c .if1 .taken))
 
-fresh-requires : tie.Need-fresh-requires
-fresh-requires c κs = search needs
+is-fresh-requires : tie.Need-is-fresh-requires
+is-fresh-requires c κs = search needs
 
 known-requires : tie.Need-known-requires
 known-requires c κs = search needs
@@ -22,7 +22,7 @@ returns-2 : tie.Need-returns-2
 unfolding wellFormed
 returns-2 c =
     let d = c .before in
-    rw (eq-eqb _ _ (d .before .before .if1 .left), ← d .before .fresh .ensures, d .if2 .taken) (ap (λ (t : Bool). Within (record { fresh = t })) (c .known .ensures))
+    rw (eq-eqb _ _ (d .before .before .if1 .left), ← d .before .is-fresh .ensures, d .if2 .taken) (ap (λ (t : Bool). Within (record { fresh = t })) (c .known .ensures))
 
 holds-study-requires : tie.Need-holds-study-requires
 holds-study-requires c κs = search needs
@@ -35,7 +35,7 @@ unfolding wellFormed
 returns-3 c =
     let h = c .before .before in
     let d = h .before in
-    rw (eq-eqb _ _ (d .before .before .if1 .left), ← d .before .fresh .ensures, d .if2 .left, ← h .holds-study .ensures, c .before .if3 .taken)
+    rw (eq-eqb _ _ (d .before .before .if1 .left), ← d .before .is-fresh .ensures, d .if2 .left, ← h .holds-study .ensures, c .before .if3 .taken)
     (ap (λ (t : Bool). Within (record { fresh = t })) (c .known2 .ensures))
 
 returns-4 : tie.Need-returns-4
@@ -43,14 +43,14 @@ unfolding wellFormed
 returns-4 c =
     let h = c .before in
     let d = h .before in
-    rw (eq-eqb _ _ (d .before .before .if1 .left), ← d .before .fresh .ensures, d .if2 .left, ← h .holds-study .ensures, c .if3 .left)
+    rw (eq-eqb _ _ (d .before .before .if1 .left), ← d .before .is-fresh .ensures, d .if2 .left, ← h .holds-study .ensures, c .if3 .left)
 
 pub new-spec : {M : Type 1} → statement M
 new-spec =
     tie.close
     (tie.spec
     returns
-    fresh-requires
+    is-fresh-requires
     known-requires
     returns-2
     holds-study-requires

@@ -1,0 +1,53 @@
+-- Which replies are accepted, by the kind that they show.
+use mathlib.Core.Path.{_≡_, refl}
+use mathlib.Core.Bool.{true, false, and-false}
+use mathlib.Core.List.{List, [], _∷_}
+use Prim.Native.Nat.{ℕ, _<_}
+use native.Mathlib.Omega.{arith}
+use lib.Dec.{ltb}
+use lib.IntN.{ℤ}
+use lib.ListN.{length}
+use borrow.Author.Tests.{lt-ltb, ne-eqb}
+use Rattle.refusals.specs.declared.Refusal.{Refusal}
+use Rattle.certificates.specs.declared.certify.Ceiling.{Ceiling}
+use Rattle.frames.specs.Digits.{digit, byteAt}
+use Rattle.frames.specs.Fields.{field}
+use Rattle.lines.specs.declared.kind.Kind.{Kind}
+use Rattle.lines.specs.declared.kind.Kind.the-variants.{Certify, Search}
+use Rattle.lines.proofs.KindNumbers.{number-low}
+use Rattle.search.specs.declared.answer.Found.{Found}
+use Rattle.replies.specs.Replies.{refusalByte, refusalReply, replyKind, boundReply, certifyReply, searchReply}
+use Rattle.replies.specs.Shown.{kindShown}
+use Rattle.replies.proofs.ReadBack.{refusal-kind, bound-kind, certify-kind, search-kind}
+use Rattle.claims.specs.Ledger.{accepted}
+
+-- an empty reply shows no byte
+accepted-as : (reply : List ℕ) → kindShown reply < refusalByte → accepted reply ≡ true
+unfolding accepted field byteAt digit
+accepted-as [] h = absurd (omega arith)
+accepted-as (c ∷ reply) h = rw (lt-ltb 0 (length (c ∷ reply)) (omega arith), ne-eqb (kindShown (c ∷ reply)) refusalByte (λ e. omega arith))
+
+pub empty-refused : accepted [] ≡ false
+unfolding accepted
+empty-refused = refl
+
+pub refusal-refused : (r : Refusal) → accepted (refusalReply r) ≡ false
+unfolding accepted
+refusal-refused r = rw (refusal-kind r) (and-false (ltb 0 (length (refusalReply r))))
+
+-- a kind's own byte is not FF
+pub reply-low : (k : Kind) → replyKind k < refusalByte
+reply-low k = omega (arith, number-low k)
+
+-- a reply under it
+pub kind-accepted : (k : Kind) (reply : List ℕ) → kindShown reply ≡ replyKind k → accepted reply ≡ true
+kind-accepted k reply e = accepted-as reply (omega (arith, e, reply-low k))
+
+pub bound-accepted : (kind : Kind) (b : List ℤ) → accepted (boundReply kind b) ≡ true
+bound-accepted kind b = kind-accepted kind (boundReply kind b) (bound-kind kind b)
+
+pub certify-accepted : (fullWeight : ℕ) (c : Ceiling) → accepted (certifyReply fullWeight c) ≡ true
+certify-accepted fullWeight c = kind-accepted Certify (certifyReply fullWeight c) (certify-kind fullWeight c)
+
+pub search-accepted : (n : ℕ) (f : Found) → accepted (searchReply n f) ≡ true
+search-accepted n f = kind-accepted Search (searchReply n f) (search-kind n f)

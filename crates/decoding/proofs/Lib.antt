@@ -1,0 +1,3 @@
+-- The laws of the crate, which callers cite: one file for each idea.
+pub mod Entries
+pub mod LoadRange

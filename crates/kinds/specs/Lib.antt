@@ -1,0 +1,3 @@
+-- The rule, and nothing besides.
+pub mod Load
+pub mod Lines

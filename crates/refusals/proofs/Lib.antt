@@ -1,0 +1,2 @@
+-- The laws of the crate, which callers cite.
+pub mod Verdicts
