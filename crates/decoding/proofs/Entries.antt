@@ -9,8 +9,7 @@ use lib.ListN.{length, take, length-append}
 use lib.Seq.{paste, take-paste, take-all}
 use Rattle.theory.proofs.Lists.{list-length}
 use Rattle.frames.specs.Digits.{bytes}
-use Rattle.lines.specs.Layout.{entryCount, pairAt, loadPairs}
-use Rattle.lines.specs.Layout.{further, numbersIn, entryField, entryCount, pairAt, loadPairs}
+use Rattle.lines.specs.Layout.{entryCount, pairAt, loadPairs, further, numbersIn, entryField}
 use Rattle.kinds.proofs.LoadFields.{FinePair, pair-next}
 use Rattle.decoding.specs.Numbers.{entriesOf}
 

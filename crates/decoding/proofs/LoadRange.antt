@@ -19,10 +19,7 @@ use Rattle.tables.specs.Block.{maxCost}
 use Rattle.tables.specs.Counts.{entriesBefore}
 use Rattle.tables.specs.Numbers.{InRange, listShape}
 use Rattle.tables.specs.WellFormed.{before}
-use Rattle.lines.specs.Layout.{costField, loadTrains, loadSize, choiceCount, loadPairs, entryCount, pairAt, loadFirst, loadSecond}
-use Rattle.lines.specs.Verdicts.{runVerdict}
-use Rattle.lines.proofs.Judged.{field-within}
-use Rattle.lines.specs.Layout.{numberIn, further, numbersIn, costField, choiceField, pairCountField, entryField, loadTrains, loadSize, choiceCount, loadPairs, entryCount, pairAt, loadFirst, loadSecond}
+use Rattle.lines.specs.Layout.{costField, loadTrains, loadSize, choiceCount, loadPairs, entryCount, pairAt, loadFirst, loadSecond, numberIn, further, numbersIn, choiceField, pairCountField, entryField}
 use Rattle.lines.specs.Verdicts.{runVerdict}
 use Rattle.lines.proofs.Judged.{field-within, run-within}
 use Rattle.kinds.specs.Load.{loadVerdict}

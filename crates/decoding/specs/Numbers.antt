@@ -3,8 +3,7 @@ use mathlib.Core.List.{List, [], _++_}
 use Prim.Native.Nat.{ℕ, zero, suc, _+_}
 use Rattle.theory.specs.Lists.{listOf}
 use Rattle.tables.specs.Numbers.{Numbers, numbers}
-use Rattle.lines.specs.Layout.{loadTrains, loadScale, loadSize, choiceCount, loadPairs, entryCount, pairAt, loadFirst, loadSecond}
-use Rattle.lines.specs.Layout.{numbersIn, choiceField, entryField, loadTrains, loadScale, loadSize, choiceCount, loadPairs, entryCount, pairAt, loadFirst, loadSecond}
+use Rattle.lines.specs.Layout.{loadTrains, loadScale, loadSize, choiceCount, loadPairs, entryCount, pairAt, loadFirst, loadSecond, numbersIn, choiceField, entryField}
 
 -- the costs of the first k pairs, one pair after the other
 unfoldable pub entriesOf : List ℕ → ℕ → List ℕ

@@ -9,9 +9,6 @@ use Rattle.frames.specs.Digits.{bytes}
 use Rattle.lines.specs.Layout.{pairAt, loadPairs}
 use Rattle.lines.specs.Verdicts.{endVerdict}
 use Rattle.lines.proofs.Judged.{end-fine}
-use Rattle.lines.specs.Layout.{pairAt, loadPairs}
-use Rattle.lines.specs.Verdicts.{endVerdict}
-use Rattle.lines.proofs.Judged.{end-fine}
 use Rattle.kinds.specs.Load.{Sized, headVerdict, sizesVerdict, choicesVerdict, pairCountVerdict, pairVerdict, pairsVerdict, restVerdict, loadVerdict, costsVerdict}
 use Rattle.kinds.proofs.LoadFields.{sized, FinePair, pair-fine}
 

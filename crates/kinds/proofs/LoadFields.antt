@@ -18,12 +18,9 @@ use Rattle.refusals.proofs.Verdicts.{then-fine, unless-fine}
 use Rattle.tables.specs.Block.{maxTrains, maxChoices, entriesOfPair}
 use Rattle.tables.specs.WellFormed.{before}
 use Rattle.frames.specs.Digits.{bytes}
-use Rattle.lines.specs.Layout.{trainsField, scaleField, sizeField, loadTrains, loadScale, loadSize, choiceCount, entryCount, pairAt, loadFirst, loadSecond}
+use Rattle.lines.specs.Layout.{trainsField, scaleField, sizeField, loadTrains, loadScale, loadSize, choiceCount, entryCount, pairAt, loadFirst, loadSecond, endOf, further, pairCountField, entryField}
 use Rattle.lines.specs.Verdicts.{fieldVerdict, runVerdict}
-use Rattle.lines.proofs.Judged.{field-within, run-there}
-use Rattle.lines.specs.Layout.{endOf, further, trainsField, scaleField, sizeField, pairCountField, entryField, loadTrains, loadScale, loadSize, choiceCount, entryCount, pairAt, loadFirst, loadSecond}
-use Rattle.lines.specs.Verdicts.{fieldVerdict, runVerdict}
-use Rattle.lines.proofs.Judged.{field-within, run-within, run-there}
+use Rattle.lines.proofs.Judged.{field-within, run-there, run-within}
 use Rattle.kinds.specs.Load.{Sized, pairOrdered, pairVerdict, headVerdict, sizesVerdict}
 
 -- ---- n, s and the sizes

@@ -10,7 +10,6 @@ use Rattle.theory.proofs.Lists.{list-length, paste-next, paste-all}
 use Rattle.frames.specs.Digits.{bytes}
 use Rattle.frames.specs.Fields.{field}
 use Rattle.lines.specs.Layout.{loadPairs, loadFirst, loadSecond, entryCount, pairAt}
-use Rattle.lines.specs.Layout.{loadPairs, loadFirst, loadSecond, entryCount, pairAt}
 use Rattle.kinds.proofs.LoadFields.{FinePair, pair-next, pair-ordered}
 use Rattle.kinds.proofs.LoadAccepted.{FineLoad, load-fine, load-sized, load-pair}
 use Rattle.decoding.specs.Numbers.{entriesOf}

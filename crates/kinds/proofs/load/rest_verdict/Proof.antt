@@ -6,7 +6,6 @@ use native.Mathlib.Omega.{arith}
 use Rattle.refusals.specs.declared.Verdict.the-variants.{Fine}
 use Rattle.refusals.proofs.Verdicts.{went-on, declined, first-none, first-more, stopped}
 use Rattle.lines.specs.Layout.{pairAt}
-use Rattle.lines.specs.Layout.{pairAt}
 use Rattle.kinds.specs.Load.{pairVerdict, pairsVerdict, restVerdict}
 use Rattle.kinds.proofs.LoadFields.{FinePair, pair-fine, pair-next, pair-ordered}
 use Rattle.kinds.proofs.load.rest_verdict.Statement.{statement}
