@@ -85,9 +85,10 @@ fn inputs_of(size: &str, study: &Study) -> Vec<Input> {
         ("tighten", &held, b"04".to_vec(), "84"),
         ("certify", &held, certify_line(study), "85"),
         ("search", &held, search_line(SMALL_BUDGET), SEARCH_REPLY),
+        ("save", &held, b"07".to_vec(), "01"),
         ("refused-character", &held, with_end(&longest, b"G"), "FF01"),
         ("refused-cost", &held, with_end(&longest, b"FFFFFF"), "FF07"),
-        ("refused-kind", &held, b"07".to_vec(), "FF03"),
+        ("refused-kind", &held, b"10".to_vec(), "FF03"),
     ];
     let input = |(name, block, line, reply): (&str, &Vec<i64>, Vec<u8>, &'static str)| Input {
         name: format!("{name}-{size}"),

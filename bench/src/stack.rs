@@ -2,7 +2,7 @@
 //! with a pattern, the call is made, and the lowest word is looked for that no longer holds it.
 
 use crate::inputs::{self, Input};
-use reference::{product, Service, LEAST_BUFFER};
+use reference::{product, Service, LONGEST_REPLY};
 use std::error::Error;
 use std::thread;
 
@@ -30,7 +30,7 @@ pub fn print() -> Result<(), Box<dyn Error>> {
 #[inline(never)]
 fn used(service: Service, input: &Input) -> usize {
     let mut block = input.block.clone();
-    let mut reply = [0; LEAST_BUFFER];
+    let mut reply = [0; LONGEST_REPLY];
     let top = reply.as_ptr() as usize;
     fill(top);
     service(&input.line, &mut block, &mut reply);

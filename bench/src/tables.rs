@@ -3,6 +3,7 @@
 use crate::inputs::{self, Input};
 use crate::services;
 use crate::timing::{compare, times, Rounds};
+use reference::lines::LONGEST_LINE;
 use std::error::Error;
 
 /// How often each service is timed, in turn, for a row of the first table.
@@ -42,7 +43,7 @@ fn print_conditions() {
          searches alone, and checks neither line nor block.\n\
          small: document 01's J, 2 trains of 2 choices, 1 pair. full: 24 trains of 8 choices, 48 pairs, seed {},\n\
          costs to 1000000. Search: budget {}. Refused: a wrong character, or a cost too high, at the very end\n\
-         of a load of 19834 characters; a kind 07.\n\
+         of a load of {LONGEST_LINE} characters; a kind 10. Save: a reply of {LONGEST_LINE} characters for the full study.\n\
          Long search: budget {}, full studies of the seeds\n\
          {studies}; {LONG_ROUNDS} rounds.\n\
          Tries a second are those of the fastest round. Least: the ratio of the fastest rounds. Median and\n\

@@ -4,23 +4,23 @@ use crate::inputs::Input;
 use crate::services::Named;
 use reference::calls::Call;
 use reference::calls::Setting::AsLeft;
-use reference::{Service, LEAST_BUFFER};
+use reference::{Service, LONGEST_REPLY};
 use std::hint::black_box;
 use std::time::{Duration, Instant};
 
 /// About how long a batch of calls takes: long against the clock's resolution.
 const BATCH: Duration = Duration::from_micros(200);
 
-/// The lent block and the lent reply buffer: one of each for all calls of all services.
+/// The lent block and the lent reply buffer, which holds every reply: one of each for all calls of all services.
 pub struct Lent {
     block: Vec<i64>,
-    reply: [u8; LEAST_BUFFER],
+    reply: [u8; LONGEST_REPLY],
 }
 
 impl Lent {
     /// Copies the block that the input begins from.
     pub fn new(input: &Input) -> Self {
-        Self { block: input.block.clone(), reply: [0; LEAST_BUFFER] }
+        Self { block: input.block.clone(), reply: [0; LONGEST_REPLY] }
     }
 
     /// Calls that each begin from the input's block. The time is that of the calls alone.
@@ -59,7 +59,7 @@ pub struct Compared {
 
 /// Runs each service once: reply, block and buffer must be the same, and the reply of the row's kind.
 pub fn compare(services: &[Named], input: &Input) -> Result<Compared, String> {
-    let call = Call { capacity: LEAST_BUFFER, setting: AsLeft, line: input.line.clone() };
+    let call = Call { capacity: LONGEST_REPLY, setting: AsLeft, line: input.line.clone() };
     let run = |named: &Named| call.run(named.service, &mut input.block.clone());
     let outcome = run(&services[0]);
     if let Some(other) = services[1..].iter().find(|named| run(named) != outcome) {

@@ -4,7 +4,7 @@ use crate::model::BLOCK_LENGTH;
 use crate::Service;
 
 /// What the buffer holds before a call.
-const FILLING: u8 = 0xAA;
+pub const FILLING: u8 = 0xAA;
 /// Places behind the lent ones that a service must not write.
 const SPARE: usize = 16;
 const MODULUS: u64 = 4_294_967_291;

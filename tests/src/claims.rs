@@ -1,10 +1,11 @@
-//! The claims of "Lists and the ledger", checked from the outside by every plan of small studies.
+//! The claims of "Lists and the ledger" and of saves, checked from the outside by every plan of small studies.
 
 use crate::generator::{Reach, Session};
 use crate::model::{Costs, Pair, Study, BLOCK_LENGTH};
 use crate::operations;
 use crate::random::Random;
 use crate::rewriting::Rewriting;
+use crate::saves::Saves;
 use crate::Service;
 
 /// How often each claim was put to the test.
@@ -20,6 +21,7 @@ pub struct Tally {
     pub ended: usize,
     pub spent_with_plan: usize,
     pub spent_without: usize,
+    pub saves: Saves,
 }
 
 /// A line's or a reply's bytes, read without judging: only accepted ones come here.
@@ -43,6 +45,7 @@ type Plans = Vec<(Vec<usize>, i64)>;
 
 /// "The ledger is fed the lines in order, each with its reply, and nothing of the block." Its costs
 /// are a study in points: scale 1, constant 0, loaded and held costs the same.
+#[derive(PartialEq, Eq)]
 struct Ledger {
     scale: i64,
     costs: Study,
@@ -187,6 +190,11 @@ impl Ledger {
         Ok(())
     }
 
+    /// A save's reply, read as a load line, gives what the ledger has.
+    fn check_saved(&self, reply: &[u8]) -> Result<(), String> {
+        demand(Ledger::load(Reader(&reply[2..])) == *self, "a save shows other numbers than the ledger's")
+    }
+
     /// A rewriting of the ledger's costs in fractions of a point, by random moves, tightenings and
     /// sweeps. (A rival has no upper limit: where a tightening says 12, it has still been made.)
     fn rival(&self, scale: i64, random: &mut Random) -> Study {
@@ -205,7 +213,7 @@ impl Ledger {
     }
 }
 
-fn demand(holds: bool, otherwise: &str) -> Result<(), String> {
+pub fn demand(holds: bool, otherwise: &str) -> Result<(), String> {
     holds.then_some(()).ok_or_else(|| otherwise.into())
 }
 
@@ -226,13 +234,24 @@ pub fn check_session(service: Service, seed: u64, calls: usize, tally: &mut Tall
             demand(accepted(reply) || block == before, "a refused line changed the block")?;
             let add_or_tighten = call.line.starts_with(b"02") || call.line.starts_with(b"04");
             demand(!add_or_tighten || reply != b"FF0C", "add or tighten gave 12")?;
+            let save = call.line.starts_with(b"07");
+            demand(!save || block == before, "a save changed the block")?;
             let Some(ledger) = &ledger else { return Ok(()) };
             let plans = ledger.plans();
             ledger.check_block(&block, &plans)?;
             match reply.get(..2) {
                 None | Some(b"FF") => Ok(()),
+                Some(_) if save => {
+                    ledger.check_saved(reply)?;
+                    tally.saves.check_saved(service, &block, reply)
+                }
                 Some(b"85") => ledger.check_certificate(reply, block[3], &plans, &mut random, tally),
-                Some(_) => ledger.check_reply(reply, &plans, tally),
+                Some(shown) => {
+                    if shown == b"81" {
+                        tally.saves.check_load(service, &block, &call.line)?;
+                    }
+                    ledger.check_reply(reply, &plans, tally)
+                }
             }
         };
         check().map_err(|claim| {

@@ -7,7 +7,7 @@ use crate::operations::{self, Certificate, Shift};
 use crate::random::Random;
 use crate::rewriting::Rewriting;
 use crate::search;
-use crate::LEAST_BUFFER;
+use crate::{LEAST_BUFFER, LONGEST_REPLY};
 use std::iter::repeat_with;
 
 /// How far a session goes.
@@ -59,13 +59,26 @@ impl Session {
             edits.iter().for_each(|&(place, value)| given[place] = value);
         }
         let study = model::decode(&given).ok().flatten();
-        let capacity = match self.random.below(12) {
-            0 => self.random.pick(&[0, 1, 4, 26, LEAST_BUFFER - 2, LEAST_BUFFER - 1]),
-            1 => LEAST_BUFFER + 1,
-            2 => self.random.below(300),
-            _ => LEAST_BUFFER,
-        };
-        Call { capacity, setting, line: self.line(study.as_ref()) }
+        let line = self.line(study.as_ref());
+        let capacity = self.capacity(&line, study.as_ref());
+        Call { capacity, setting, line }
+    }
+
+    /// A buffer's length: of a line of kind 07 mostly one beside the length of the study's load line.
+    fn capacity(&mut self, line: &[u8], study: Option<&Study>) -> usize {
+        match study {
+            Some(study) if line.starts_with(b"07") && self.random.chance(80) => {
+                let length = 2 * lines::saved(study).len();
+                self.random.pick(&[LEAST_BUFFER, length - 1, length, length + 1, LONGEST_REPLY])
+            }
+            _ => match self.random.below(12) {
+                0 => self.random.pick(&[0, 1, 4, 26, LEAST_BUFFER - 2, LEAST_BUFFER - 1]),
+                1 => LEAST_BUFFER + 1,
+                2 => self.random.below(300),
+                3 => LONGEST_REPLY,
+                _ => LEAST_BUFFER,
+            },
+        }
     }
 
     fn setting(&mut self, block: &[i64]) -> Setting {
@@ -140,12 +153,13 @@ impl Session {
                 &substitute
             }
         };
-        let mut fields = match self.random.below(20) {
+        let mut fields = match self.random.below(23) {
             _ if load => load_fields(study),
             0..=3 => self.add(study),
             4..=8 => self.shift(study),
             9..=11 => vec![(1, 4)],
             12..=15 => certificate_fields(&self.certificate(study)),
+            16..=18 => vec![(1, 7)],
             _ => vec![(1, 6), (4, self.budget(study))],
         };
         if self.random.chance(15) {
@@ -323,7 +337,9 @@ impl Session {
                 let length = random.below(8);
                 repeat_with(|| random.number() as u8).take(length).collect()
             }
-            _ => random.pick(&["00", "07", "81", "FF", "1", "01", "02", "03", "0400", "05", "06"]).into(),
+            _ => random
+                .pick(&["00", "10", "81", "FF", "1", "01", "02", "03", "0400", "05", "06", "0700", "070707"])
+                .into(),
         }
     }
 }

@@ -1,4 +1,5 @@
-//! An independent reference of the junction bound service (document 01), and the test tools over it.
+//! An independent reference of the junction bound service (document 01, and change 1 of document 02), and the
+//! test tools over it.
 
 pub mod calls;
 pub mod claims;
@@ -9,9 +10,10 @@ pub mod operations;
 pub mod product;
 pub mod random;
 pub mod rewriting;
+pub mod saves;
 pub mod search;
 
-use lines::Kind;
+use lines::{Kind, LONGEST_LINE};
 use model::{Refusal, Study, BLOCK_LENGTH};
 use std::error::Error;
 use std::io::{self, BufRead, Write};
@@ -20,10 +22,13 @@ use std::process::ExitCode;
 /// "reply buffer below 72 bytes" is number 17.
 pub const LEAST_BUFFER: usize = 72;
 
+/// The longest reply is the longest load line that a save may answer with; every other fits in the least buffer.
+pub const LONGEST_REPLY: usize = LONGEST_LINE;
+
 /// A service: line, lent block, lent reply buffer; gives the number of bytes written to its front.
 pub type Service = fn(&[u8], &mut [i64], &mut [u8]) -> usize;
 
-/// Answers one line: document 01 as a whole.
+/// Answers one line: document 01 as a whole, and change 1.
 pub fn answer(line: &[u8], block: &mut [i64], reply: &mut [u8]) -> usize {
     // "17 hands back an empty part and writes nothing."
     if reply.len() < LEAST_BUFFER {
@@ -32,6 +37,10 @@ pub fn answer(line: &[u8], block: &mut [i64], reply: &mut [u8]) -> usize {
     // "A declined line answers FF and the number as one byte."
     let bytes = respond(line, block).unwrap_or_else(|refusal| vec![0xFF, refusal as u8]);
     let digits = lines::digits(&bytes);
+    // Of a save: "where it doesn't fit, the answer is 17, judged after 5." It has changed nothing.
+    if digits.len() > reply.len() {
+        return 0;
+    }
     reply[..digits.len()].copy_from_slice(&digits);
     digits.len()
 }
@@ -77,6 +86,12 @@ fn respond(line: &[u8], block: &mut [i64]) -> Result<Vec<u8>, Refusal> {
             let budget = lines::budget(fields)?;
             Ok(walk_reply(&study, &search::walk(&study, budget)))
         }
+        // "Kind 07, with no fields, answers with a load line for H." It changes nothing in the block.
+        Kind::Save => {
+            let study = present()?;
+            fields.end()?;
+            Ok(lines::saved(&study))
+        }
     }
 }
 
@@ -117,7 +132,7 @@ fn walk_reply(study: &Study, walk: &search::Walk) -> Vec<u8> {
 /// last line without a line end is a line too, unless empty."
 pub fn session(mut input: impl BufRead, mut output: impl Write) -> io::Result<()> {
     let mut block = vec![0; BLOCK_LENGTH];
-    let mut reply = [0; LEAST_BUFFER];
+    let mut reply = [0; LONGEST_REPLY];
     while let Some(line) = next_line(&mut input)? {
         let written = answer(&line, &mut block, &mut reply);
         output.write_all(&reply[..written])?;

@@ -20,6 +20,7 @@ pub enum Kind {
     Tighten,
     Certify,
     Search,
+    Save,
 }
 
 /// The bytes behind the kind, read from the left.
@@ -85,6 +86,10 @@ pub fn put(bytes: &mut Vec<u8>, width: usize, number: i64) {
     bytes.extend_from_slice(&number.to_be_bytes()[8 - width..]);
 }
 
+fn put_all(bytes: &mut Vec<u8>, width: usize, numbers: &[i64]) {
+    numbers.iter().for_each(|&number| put(bytes, width, number));
+}
+
 /// The kind and the fields: 2, then 1, then 3.
 pub fn open(line: &[u8]) -> Result<(Kind, Fields), Refusal> {
     if line.len() > LONGEST_LINE {
@@ -104,6 +109,7 @@ pub fn open(line: &[u8]) -> Result<(Kind, Fields), Refusal> {
         4 => Kind::Tighten,
         5 => Kind::Certify,
         6 => Kind::Search,
+        7 => Kind::Save,
         _ => return Err(Refusal::NoSuchKind),
     };
     Ok((kind, Fields { bytes, next: 1 }))
@@ -136,6 +142,22 @@ pub fn load(mut fields: Fields) -> Result<Study, Refusal> {
     }
     fields.end()?;
     Ok(Study { scale, constant: 0, trains, pairs })
+}
+
+/// The bytes of the line that loads the study's H, "in document 01's layout": the fields of `load`, in its order.
+pub fn saved(study: &Study) -> Vec<u8> {
+    let mut bytes = vec![1, study.trains.len() as u8];
+    put(&mut bytes, 2, study.scale);
+    bytes.extend(study.trains.iter().map(|costs| costs.columns as u8));
+    for costs in &study.trains {
+        put_all(&mut bytes, 3, &costs.loaded);
+    }
+    bytes.push(study.pairs.len() as u8);
+    for Pair { trains, costs } in &study.pairs {
+        bytes.extend(trains.map(|train| train as u8));
+        put_all(&mut bytes, 3, &costs.loaded);
+    }
+    bytes
 }
 
 /// "train, choice (1 each), points (3)." "Train or choice absent" is 9.

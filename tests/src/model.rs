@@ -37,7 +37,7 @@ pub enum Refusal {
 }
 
 /// The costs of a train (one row) or of a pair (a row for each a): H in points, T in parts.
-#[derive(Clone)]
+#[derive(Clone, PartialEq, Eq)]
 pub struct Costs {
     pub rows: usize,
     pub columns: usize,
@@ -75,14 +75,14 @@ impl Costs {
 }
 
 /// Two trains i < j, and their costs.
-#[derive(Clone)]
+#[derive(Clone, PartialEq, Eq)]
 pub struct Pair {
     pub trains: [usize; 2],
     pub costs: Costs,
 }
 
 /// A loaded problem.
-#[derive(Clone)]
+#[derive(Clone, PartialEq, Eq)]
 pub struct Study {
     pub scale: i64,
     pub constant: i64,

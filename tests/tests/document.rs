@@ -1,9 +1,9 @@
-//! The reference against document 01's own examples.
+//! The reference against document 01's own examples, and those of a save.
 
-use reference::calls::{digest, Call};
-use reference::lines::digits;
+use reference::calls::{digest, Call, Setting, FILLING};
+use reference::lines::{digits, LONGEST_LINE};
 use reference::model::BLOCK_LENGTH;
-use reference::LEAST_BUFFER;
+use reference::{LEAST_BUFFER, LONGEST_REPLY};
 
 const J: &str = "010200010202000002000000000000000000010001000001000000000003000002";
 const CERTIFICATE: &str = "05000001000001000000000000000001000000000001000000000000";
@@ -19,6 +19,9 @@ const REPLIES: &str = "\
 85010000000000000002000001
 8601000000040000000000020001
 ";
+
+/// The reply to a load.
+const ZERO: &str = "81000000000000000000000000";
 
 /// The replies to the lines, one after another from a fresh block.
 fn replies(lines: &[&str]) -> Vec<String> {
@@ -64,8 +67,8 @@ fn the_last_line_needs_no_line_end_unless_empty() {
 fn every_row_of_the_table() {
     let zeros = |count: usize| "0".repeat(count);
     assert_eq!(last(&["0"]), "FF01");
-    assert_eq!(last(&[&zeros(19_835)]), "FF02");
-    assert_eq!(last(&[&zeros(19_834)]), "FF03");
+    assert_eq!(last(&[&zeros(LONGEST_LINE + 1)]), "FF02");
+    assert_eq!(last(&[&zeros(LONGEST_LINE)]), "FF03");
     assert_eq!(last(&["FF"]), "FF03");
     assert_eq!(last(&["04"]), "FF04");
     assert_eq!(last(&[J, "0400"]), "FF05");
@@ -81,15 +84,15 @@ fn every_row_of_the_table() {
     assert_eq!(last(&[J, "0600000000"]), "FF0F");
 
     let mut block = vec![0; BLOCK_LENGTH];
-    let mut reply = [7; 80];
+    let mut reply = [7; LEAST_BUFFER];
     let short = &mut block[..BLOCK_LENGTH - 1];
     assert_eq!(reference::answer(b"04", short, &mut reply), 4);
     assert_eq!(&reply[..4], b"FF10");
     assert!(reply[4..].iter().all(|&byte| byte == 7));
 
-    let mut reply = [7; 71];
+    let mut reply = [7; LEAST_BUFFER - 1];
     assert_eq!(reference::answer(J.as_bytes(), &mut block, &mut reply), 0);
-    assert_eq!(reply, [7; 71]);
+    assert_eq!(reply, [7; LEAST_BUFFER - 1]);
     assert_eq!(block, vec![0; BLOCK_LENGTH]);
 }
 
@@ -110,10 +113,66 @@ fn the_marked_cases() {
     assert_eq!(last(&[&sizes(9)]), "FF06");
 }
 
+/// The reply to the last line in a buffer of this length, the lines before being loads and rewritings.
+/// The last line leaves the block.
+fn last_in(capacity: usize, lines: &[&str]) -> String {
+    let (line, before) = lines.split_last().unwrap();
+    let mut block = vec![0; BLOCK_LENGTH];
+    for line in before {
+        reference::answer(line.as_bytes(), &mut block, &mut [0; LEAST_BUFFER]);
+    }
+    let left = block.clone();
+    let call = Call { capacity, setting: Setting::AsLeft, line: line.as_bytes().to_vec() };
+    let outcome = call.run(reference::answer, &mut block);
+    assert!(block == left);
+    assert!(outcome.buffer[outcome.written..].iter().all(|&byte| byte == FILLING));
+    String::from_utf8(outcome.reply().to_vec()).unwrap()
+}
+
+/// Change 1, with a study K of three trains, two pairs and a scale of 2: 108 characters.
+#[test]
+fn saves() {
+    const K: &str =
+        "010300020202020000010000000000000000030000020000020200010000000000040000010000000102000005\
+                     0000010000000F4240";
+    let most = |lines: &[&str]| last_in(LONGEST_REPLY, lines);
+    assert_eq!(most(&["07"]), "FF04");
+    assert_eq!(most(&["0700"]), "FF04");
+    assert_eq!(most(&[J, "07"]), J);
+    assert_eq!(last_in(LEAST_BUFFER, &[J, "07"]), J);
+    assert_eq!(last_in(LEAST_BUFFER - 1, &[J, "07"]), "");
+    assert_eq!(most(&[J, "0700"]), "FF05");
+    assert_eq!(most(&[J, "070707"]), "FF05");
+    let added = "010200010202000007000000000000000000010001000001000000000003000002";
+    assert_eq!(most(&[J, "04", "020000000005", "07"]), added);
+    assert_eq!(last(&[K, "04"]), "84000000000006000000000003");
+    assert_eq!(most(&[K, "04", "07"]), K);
+    for (capacity, reply) in [(108, K), (109, K), (LEAST_BUFFER, ""), (107, "")] {
+        assert_eq!(last_in(capacity, &[K, "07"]), reply);
+    }
+    assert_eq!(last_in(LEAST_BUFFER, &[K, "0700"]), "FF05");
+    assert_eq!(most(&[J, "08"]), "FF03");
+    assert_eq!(most(&[J, "10"]), "FF03");
+    // The buffer of a session holds every line.
+    assert_eq!(replies(&[K, "07", "0700", J, "07"]), [ZERO, K, "FF05", ZERO, J]);
+}
+
+/// 24 trains of 8 choices, 48 pairs and the highest cost everywhere: the longest line there is.
+#[test]
+fn the_longest_line_is_saved() {
+    let cost = "0F4240";
+    let pairs = (0..24).flat_map(|i| (i + 1..24).map(move |j| (i, j))).take(48);
+    let pairs: String = pairs.map(|(i, j)| format!("{i:02X}{j:02X}{}", cost.repeat(64))).collect();
+    let load = format!("011803E8{}{}30{pairs}", "08".repeat(24), cost.repeat(24 * 8));
+    assert_eq!(load.len(), LONGEST_LINE);
+    assert_eq!(replies(&[&load, "07"]), [ZERO, &load]);
+    assert_eq!(last_in(LONGEST_REPLY - 1, &[&load, "07"]), "");
+}
+
 /// Points that the document leaves short.
 #[test]
 fn readings() {
-    assert_eq!(last(&[&"g".repeat(19_835)]), "FF02");
+    assert_eq!(last(&[&"g".repeat(LONGEST_LINE + 1)]), "FF02");
     assert_eq!(last(&["0f"]), "FF01");
     assert_eq!(last(&["0400"]), "FF04");
     assert_eq!(last(&["01"]), "FF05");

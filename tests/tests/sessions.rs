@@ -1,8 +1,13 @@
-//! The document's claims on sessions of small studies, and the generator's reach.
+//! The document's claims on sessions of small studies, saves on sessions of every size, and the generator's reach.
 
+use reference::calls::{Call, Outcome};
 use reference::claims::{check_session, Tally};
 use reference::generator::{Reach, Session};
-use reference::model::BLOCK_LENGTH;
+use reference::lines::saved;
+use reference::model::{decode, BLOCK_LENGTH};
+use reference::saves::Saves;
+use reference::LEAST_BUFFER;
+use std::cmp::Ordering;
 use std::collections::BTreeMap;
 
 #[test]
@@ -18,24 +23,94 @@ fn the_claims_hold_by_every_plan() {
     assert!(tally.reached > 500 && tally.better_rivals > 500 && tally.tight_rivals > 500, "{tally:?}");
     assert!(tally.ended > 500 && tally.spent_with_plan > 500, "{tally:?}");
     assert!(tally.spent_without > 100, "{tally:?}");
+    let Saves { loaded, rewritten, given_back } = tally.saves;
+    assert!(loaded > 500 && rewritten > 300 && given_back > 500, "{tally:?}");
 }
 
 #[test]
-fn the_generator_reaches_every_answer() {
-    let mut seen: BTreeMap<(String, String), usize> = BTreeMap::new();
+fn saves_hold_on_every_block() {
+    let mut saves = Saves::default();
+    for seed in 0..60 {
+        if let Err(claim) = saves.check_session(reference::answer, seed, 50) {
+            panic!("{claim}");
+        }
+    }
+    assert!(saves.loaded > 2_000 && saves.rewritten > 1_000 && saves.given_back > 100, "{saves:?}");
+}
+
+/// The calls of 600 sessions over every block, each with what it left.
+fn generated(mut see: impl FnMut(&Call, &Outcome)) {
     for seed in 0..600 {
         let mut session = Session::new(seed, Reach::Blocks);
         let mut block = vec![0; BLOCK_LENGTH];
         for _ in 0..50 {
             let call = session.call(&block);
             let outcome = call.run(reference::answer, &mut block);
-            let reply = String::from_utf8(outcome.reply().to_vec()).unwrap();
-            let start = if reply.starts_with("FF") { 4 } else { 2 };
-            let kind = String::from_utf8_lossy(&call.line[..call.line.len().min(2)]);
-            let start = reply.chars().take(start).collect();
-            *seen.entry((kind.into(), start)).or_default() += 1;
+            see(&call, &outcome);
         }
     }
+}
+
+/// Which buffers, none below the least, saves of loaded blocks come with.
+#[derive(Default, Debug)]
+struct SaveBuffers {
+    /// Too short by one character or by more, and a line of kind 07 with bytes left over in such a buffer.
+    short_by_one: usize,
+    shorter: usize,
+    left_over: usize,
+    /// As long as the line, one longer, and longer still.
+    just_fits: usize,
+    longer_by_one: usize,
+    longer: usize,
+    /// Lines that the least buffer holds.
+    least_holds: usize,
+}
+
+impl SaveBuffers {
+    fn count(&mut self, line: &[u8], capacity: usize, length: usize, reply: &[u8]) {
+        let count = match (line, capacity.cmp(&length)) {
+            (b"07", Ordering::Less) if capacity + 1 == length => &mut self.short_by_one,
+            (b"07", Ordering::Less) => &mut self.shorter,
+            (_, Ordering::Less) if reply == b"FF05" => &mut self.left_over,
+            (b"07", Ordering::Equal) => &mut self.just_fits,
+            (b"07", Ordering::Greater) if capacity == length + 1 => &mut self.longer_by_one,
+            (b"07", Ordering::Greater) if capacity == LEAST_BUFFER => &mut self.least_holds,
+            (b"07", Ordering::Greater) => &mut self.longer,
+            _ => return,
+        };
+        *count += 1;
+    }
+}
+
+#[test]
+fn the_generator_reaches_every_buffer_of_a_save() {
+    let mut seen = SaveBuffers::default();
+    generated(|call, outcome| {
+        if call.line.starts_with(b"07") && call.capacity >= LEAST_BUFFER {
+            if let Ok(Some(study)) = decode(&outcome.block) {
+                let length = 2 * saved(&study).len();
+                seen.count(&call.line, call.capacity, length, outcome.reply());
+                // 17 comes late only to a save that is longer than its buffer.
+                assert_eq!(outcome.written == 0, call.line == b"07" && call.capacity < length);
+            }
+        }
+    });
+    let SaveBuffers { short_by_one, shorter, left_over, just_fits, longer_by_one, longer, least_holds } =
+        seen;
+    let counts = [short_by_one, shorter, just_fits, longer_by_one, longer];
+    assert!(counts.iter().all(|&count| count > 200) && left_over > 20 && least_holds > 20, "{seen:?}");
+}
+
+#[test]
+fn the_generator_reaches_every_answer() {
+    let mut seen: BTreeMap<(String, String), usize> = BTreeMap::new();
+    generated(|call, outcome| {
+        let reply = String::from_utf8(outcome.reply().to_vec()).unwrap();
+        let start = if reply.starts_with("FF") { 4 } else { 2 };
+        let kind = String::from_utf8_lossy(&call.line[..call.line.len().min(2)]);
+        let start = reply.chars().take(start).collect();
+        *seen.entry((kind.into(), start)).or_default() += 1;
+    });
     let often = |kind: &str, start: &str| {
         let count = seen.get(&(kind.into(), start.into())).copied().unwrap_or(0);
         assert!(count >= 3, "{start} for {kind:?}: {count}");
@@ -47,12 +122,18 @@ fn the_generator_reaches_every_answer() {
         ("04", &[1, 4, 5, 12, 16]),
         ("05", &[1, 4, 5, 13, 14, 16]),
         ("06", &[1, 4, 5, 15, 16]),
+        ("07", &[1, 4, 5, 16]),
         ("00", &[2, 3]),
+        ("10", &[3]),
     ] {
         numbers.iter().for_each(|number| often(kind, &format!("FF{number:02X}")));
-        if kind != "00" {
-            often(kind, &kind.replacen('0', "8", 1));
-            often(kind, "");
-        }
+        // "Kind 07 ... answers with a load line."
+        let shown = match kind {
+            "00" | "10" => continue,
+            "07" => "01".into(),
+            _ => kind.replacen('0', "8", 1),
+        };
+        often(kind, &shown);
+        often(kind, "");
     }
 }

@@ -4,6 +4,7 @@
 use reference::generator::{Reach, Session};
 use reference::model::BLOCK_LENGTH;
 use reference::random::Random;
+use reference::LONGEST_REPLY;
 use std::env;
 use std::error::Error;
 use std::fs;
@@ -105,7 +106,8 @@ fn mixed_lines() -> Vec<u8> {
     let mut block = vec![0; BLOCK_LENGTH];
     let mut input = FIRST.to_vec();
     let mut session = Session::new(seeds.number(), Reach::SmallLines);
-    reference::answer(&FIRST[..FIRST.len() - 1], &mut block, &mut [0; reference::LEAST_BUFFER]);
+    let mut reply = [0; LONGEST_REPLY];
+    reference::answer(&FIRST[..FIRST.len() - 1], &mut block, &mut reply);
     let mut number = 1;
     while number < LINES {
         if number % LINES_PER_SEED == 0 {
@@ -116,7 +118,7 @@ fn mixed_lines() -> Vec<u8> {
         if is_long_search(&call.line) || call.line.contains(&b'\n') {
             continue;
         }
-        reference::answer(&call.line, &mut block, &mut [0; reference::LEAST_BUFFER]);
+        reference::answer(&call.line, &mut block, &mut reply);
         input.extend_from_slice(&call.line);
         input.push(b'\n');
         number += 1;

@@ -13,3 +13,4 @@ pub mod Equations
 pub mod Refusals
 pub mod Unequal
 pub mod PlanCosts
+pub mod Saves

@@ -7,7 +7,7 @@ use lib.ListN.{length}
 use Rattle.theory.specs.Sum.{sum}
 use Rattle.theory.specs.Range.{all, pass}
 use Rattle.theory.specs.Fold.{iter, least}
-use Rattle.theory.specs.Lists.{listFrom}
+use Rattle.theory.specs.Lists.{listFrom, joined}
 use Rattle.units.specs.Units.{roundedUp}
 use Rattle.refusals.specs.declared.Refusal.the-variants.{Malformed}
 use Rattle.refusals.specs.Verdicts.{firstOf}
@@ -16,6 +16,7 @@ use Rattle.tables.specs.WellFormed.{within, choiceUsed, entryUsed, headLimits, 
 use Rattle.tables.specs.Plans.{heldCosts}
 use Rattle.operations.specs.Add.{added}
 use Rattle.operations.specs.Load.{loadedBlock}
+use Rattle.operations.specs.Saved.{savedCost, savedNumbers}
 use Rattle.rewriting.specs.Moves.{moveRun}
 use Rattle.shift.specs.Shift.{pairShifted, shifted}
 use Rattle.tighten.specs.Tighten.{runLeast, runTightened, pairTightened, tightened}
@@ -27,6 +28,7 @@ use Rattle.frames.specs.Runs.{runDigits}
 use Rattle.frames.specs.Text.{zeros}
 use Rattle.lines.specs.Kinds.{newKind}
 use Rattle.lines.specs.Layout.{pairAt}
+use Rattle.lines.specs.Text.{pairDigits, pairsDigits, loadDigits}
 use Rattle.lines.specs.Verdicts.{fieldVerdict, runsVerdict, lastVerdict}
 use Rattle.kinds.specs.Load.{pairOrdered, pairVerdict, headVerdict, restVerdict, loadVerdict}
 use Rattle.kinds.specs.Lines.{addVerdict, shiftVerdict, certifyVerdict, searchVerdict}
@@ -52,11 +54,11 @@ unfoldable pub computed : List Row → List Left
 unfolding text zeros marks places rows grids laid held call row declined declinedLong silent leftBy said answerOn
     roundedUp
     sum all pass figure within choiceUsed entryUsed headLimits shapeLimits costLimits limitsAt placesRight before follows pairRight pairsRight isZero isFresh holdsStudy wellFormed heldCosts
-    iter least added loadedBlock
+    iter least added loadedBlock joined savedCost savedNumbers
     moveRun pairShifted shifted runLeast runTightened pairTightened tightened
     trainBalanced rowBalanced columnBalanced pairBalanced balanced overChoices overPairs weighted
     digit digitOf byteAt field signed fieldDigits allDigits framed listFrom runDigits
-    newKind pairAt entriesOf numbersOf firstOf fieldVerdict lastVerdict runsVerdict pairOrdered pairVerdict headVerdict restVerdict loadVerdict
+    newKind pairAt pairDigits pairsDigits loadDigits entriesOf numbersOf firstOf fieldVerdict lastVerdict runsVerdict pairOrdered pairVerdict headVerdict restVerdict loadVerdict
     addVerdict shiftVerdict certifyVerdict searchVerdict studyLine kindLine lineOf
     walk.added partialTotal oneTry triedFrom openedTrain walked searched searchAnswer
     fieldsDigits refusalReply boundReply certifyReply searchReply

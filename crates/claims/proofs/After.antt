@@ -13,7 +13,7 @@ use Rattle.tables.specs.WellFormed.{isZero, wellFormed, freshBlock, isFresh}
 use Rattle.tables.proofs.Study.{study-well-formed}
 use Rattle.lines.specs.declared.kind.NewKind.the-variants.{Known}
 use Rattle.lines.specs.declared.request.Request.{Request}
-use Rattle.lines.specs.declared.request.Request.the-variants.{Load, Add, Shift, Tighten, Certify, Search}
+use Rattle.lines.specs.declared.request.Request.the-variants.{Load, Add, Shift, Tighten, Certify, Search, Save}
 use Rattle.lines.specs.Kinds.{newKind, requestKind}
 use Rattle.lines.specs.Layout.{kindOf}
 use Rattle.reader.proofs.LineAccepted.{Makes, line-makes}
@@ -72,12 +72,14 @@ module _ (g : Ledger) (l : List ℕ) where
   new-request Tighten m e = absurd (not-both fresh-is (m .2))
   new-request (Certify q) m e = absurd (not-both fresh-is (m .2))
   new-request (Search q) m e = absurd (not-both fresh-is (m .2))
+  new-request Save m e = absurd (not-both fresh-is (m .2))
 
   line-new : (room : ℕ) → longestFixed ≤ room → Called g freshBlock l (lineAnswer l freshBlock room)
   line-new room h =
       line-cases l freshBlock room h right-fresh (Called g freshBlock l)
       (λ r e. called-quiet _ (refusal-refused r) (declined-call g freshBlock l r (line-allowed l freshBlock r e)))
-      (λ q a. new-request q (line-makes l freshBlock q (a .asked) .1) (line-known l freshBlock q (a .asked)))
+      (λ q a f. new-request q (line-makes l freshBlock q (a .asked) .1) (line-known l freshBlock q (a .asked)))
+      (λ q a f. called-quiet [] empty-refused (empty-call g freshBlock l))
 
   called-new : (buffer : List ℕ) → Called g freshBlock l (answer l freshBlock buffer)
   called-new buffer =

@@ -15,6 +15,7 @@ use Rattle.tables.specs.Block.{trains}
 use Rattle.tables.specs.WellFormed.{wellFormed}
 use Rattle.operations.specs.Add.{added, addOutcome}
 use Rattle.operations.specs.Load.{loadedBlock}
+use Rattle.operations.specs.Saved.{savedNumbers}
 use Rattle.shift.specs.Shift.{shifted, shiftOutcome}
 use Rattle.tighten.specs.Tighten.{tightened, tightenOutcome}
 use Rattle.certificates.specs.declared.certify.Certificate.{Certificate}
@@ -24,17 +25,17 @@ use Rattle.frames.specs.Runs.{runOf, signedRunOf}
 use Rattle.lines.specs.declared.kind.Kind.{Kind}
 use Rattle.lines.specs.declared.kind.Kind.the-variants as kind
 use Rattle.lines.specs.declared.request.Request.{Request}
-use Rattle.lines.specs.declared.request.Request.the-variants.{Load, Add, Shift, Tighten, Certify, Search}
+use Rattle.lines.specs.declared.request.Request.the-variants.{Load, Add, Shift, Tighten, Certify, Search, Save}
 use Rattle.lines.specs.Layout.{moveWidth, weightWidth}
 use Rattle.decoding.specs.Numbers.{numbersOf}
 use Rattle.search.specs.Answer.{searchAnswer}
 use Rattle.replies.specs.Replies.{refusalReply, longestFixed}
-use Rattle.requests.specs.Answer.{Answer, declined, operated, certified, requested, lineAnswer}
+use Rattle.requests.specs.Answer.{Answer, answered, declined, operated, certified, requested, lineAnswer}
 use Rattle.requests.proofs.LineCases.{line-cases}
 use Rattle.service.specs.Answer.{answer}
 use Rattle.service.proofs.AnswerCases.{fixed-fit, answer-cases}
 use Rattle.claims.specs.Ledger.{accepted}
-use Rattle.claims.proofs.Accepted.{bound-accepted, certify-accepted, search-accepted}
+use Rattle.claims.proofs.Accepted.{bound-accepted, certify-accepted, search-accepted, save-accepted}
 
 -- a declined answer: the block is as it was, and the reply is empty (17) or a refusal's two bytes
 pub record Refuses (reply : List ℕ) : Type 0 where
@@ -51,6 +52,9 @@ Either b a = (accepted (a .reply) ≡ true) ⊎ Declines b a
 
 either-declined : (b : List ℤ) (r : Refusal) → Either b (declined b r)
 either-declined b r = inr (record { block = refl; reply = inr (record { refusal = r; is = refl }) })
+
+either-empty : (b : List ℤ) → Either b (answered b [])
+either-empty b = inr (record { block = refl; reply = inl refl })
 
 either-operated : (kind : Kind) (v : Verdict) (old new : List ℤ) → Either old (operated kind v old new)
 either-operated kind Fine old new = inl (bound-accepted kind new)
@@ -72,13 +76,14 @@ module _ (l : List ℕ) (b : List ℤ) where
   either-requested Tighten = either-operated kind.Tighten (tightenOutcome b) b (tightened b)
   either-requested (Certify q) = either-certified (q .full) (certificate b (weightsOf b (q .full) (runOf l (q .weights .at) weightWidth (q .weights .count)))) b
   either-requested (Search q) = inl (search-accepted (trains b) (searchAnswer b (q .budget)))
+  either-requested Save = inl (save-accepted (savedNumbers b))
 
   either-line : (room : ℕ) → longestFixed ≤ room → wellFormed b ≡ true → Either b (lineAnswer l b room)
-  either-line room h right = line-cases l b room h right (λ a. Either b a) (λ r e. either-declined b r) (λ q a. either-requested q)
+  either-line room h right = line-cases l b room h right (λ a. Either b a) (λ r e. either-declined b r) (λ q a f. either-requested q) (λ q a f. either-empty b)
 
   either-answer : (buffer : List ℕ) → Either b (answer l b buffer)
   either-answer buffer =
-      answer-cases l b buffer (λ a. Either b a) (λ h. inr (record { block = refl; reply = inl refl })) (λ e. either-declined b Malformed) (λ h. either-line (length buffer) (fixed-fit buffer h))
+      answer-cases l b buffer (λ a. Either b a) (λ h. either-empty b) (λ e. either-declined b Malformed) (λ h. either-line (length buffer) (fixed-fit buffer h))
 
   -- what is not accepted leaves the block as it was, and writes nothing but its two bytes
   leaves : (a : Answer) → Either b a → accepted (a .reply) ≡ false → Declines b a

@@ -7,9 +7,11 @@ pub mod Lines
 pub mod Keeps
 pub mod Kept
 pub mod Found
+pub mod SaveClaims
 pub mod Steps
 pub mod After
 pub mod Demand
 pub mod Seen
 pub mod Inputs
+pub mod Saves
 pub mod Uses

@@ -23,12 +23,12 @@ use Rattle.lines.specs.declared.kind.NewKind.the-variants.{Known}
 use Rattle.lines.specs.Kinds.{newKind}
 use Rattle.lines.specs.Layout.{kindOf}
 use Rattle.search.specs.declared.answer.Found.{Found}
-use Rattle.replies.specs.Replies.{refusalReply, replyKind, figureWidth, flag, boundOf, boundReply, certifyReply, shownCost, shownChoice, searchReply}
+use Rattle.replies.specs.Replies.{refusalReply, figureWidth, flag, boundOf, boundReply, certifyReply, shownCost, shownChoice, searchReply}
 use Rattle.replies.specs.Shown.{kindShown, costShown, planShown, showsPlan}
 use Rattle.replies.proofs.ReadBack.{refusal-number, bound-shown, certify-flag, certify-weighted, certify-full-weight, search-ended, search-cost, search-plan}
 use Rattle.service.specs.Calls.{exchange}
 use Rattle.claims.specs.Ledger.{Ledger, accepted, byKind, costOf}
-use Rattle.claims.specs.Claims.{PlanOf, DeclinedAs, outside, malformed, scaledCost, BoundClaim, CeilingClaim, SearchClaim, Claim, neverOutside, AtCall}
+use Rattle.claims.specs.Claims.{PlanOf, DeclinedAs, outside, malformed, scaledCost, BoundClaim, CeilingClaim, SearchClaim, Claim, shownKind, neverOutside, AtCall}
 use Rattle.claims.proofs.Accepted.{reply-low}
 
 -- ---- a call, from its line
@@ -39,7 +39,7 @@ module _ (g : Ledger) (b : List ℤ) (l reply : List ℕ) where
   at-refused e n m = record { line = λ a. absurd (not-both a e); never-outside = n; never-malformed = m }
 
   -- a reply under the line's own kind, which is no refusal
-  pub at-accepted : (k : Kind) → newKind (kindOf l) ≡ Known k → kindShown reply ≡ replyKind k → Claim k g b (exchange l reply) → AtCall g b (exchange l reply)
+  pub at-accepted : (k : Kind) → newKind (kindOf l) ≡ Known k → kindShown reply ≡ shownKind k → Claim k g b (exchange l reply) → AtCall g b (exchange l reply)
   unfolding DeclinedAs
   at-accepted k known shown claim =
       record {

@@ -38,7 +38,7 @@ use Rattle.reader.proofs.LineKind.{line-known}
 use Rattle.replies.specs.Replies.{refusalReply}
 use Rattle.requests.specs.Answer.{operated, requested}
 use Rattle.requests.specs.Wrote.{Asks}
-use Rattle.requests.proofs.LineCases.{asked-line, line-cases}
+use Rattle.requests.proofs.LineCases.{fixed-line, line-cases}
 use Rattle.service.specs.Answer.{minBuffer, answer}
 use Rattle.service.proofs.AnswerCases.{fixed-fit, answer-cases}
 use Rattle.service.proofs.Calls.{answered-line}
@@ -64,7 +64,8 @@ accepted-asks l b buffer =
     (λ e y. absurd (not-both y (refusal-refused Malformed)))
     (λ h e. line-cases l b (length buffer) (fixed-fit buffer h) e (λ a. accepted (a .reply) ≡ true → Asking l b buffer)
     (λ r e y. absurd (not-both y (refusal-refused r)))
-    (λ q a y. record { large = h; request = q; asks = a }))
+    (λ q a f y. record { large = h; request = q; asks = a })
+    (λ q a f y. absurd (not-both y empty-refused)))
 
 -- ---- a line that asks for a shift
 
@@ -85,7 +86,7 @@ module _ (l : List ℕ) (b : List ℤ) (buffer : List ℕ) (h : minBuffer ≤ le
   unfolding requested
   answer-is =
       answered-line l b buffer h (a .right)
-      ∙ asked-line l b (length buffer) (a .fits) (a .right) (Shift q) (a .asked)
+      ∙ fixed-line l b (length buffer) (a .fits) (a .right) (Shift q) refl (a .asked)
       ∙ ap (λ (r : Request). requested r l b) (made .0)
 
   -- the numbers of the two lists stand in the line

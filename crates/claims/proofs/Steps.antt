@@ -40,7 +40,7 @@ use Rattle.lines.specs.declared.kind.Kind.{Kind}
 use Rattle.lines.specs.declared.kind.Kind.the-variants as kind
 use Rattle.lines.specs.declared.kind.NewKind.the-variants.{Known}
 use Rattle.lines.specs.declared.request.Request.{Request}
-use Rattle.lines.specs.declared.request.Request.the-variants.{Load, Add, Shift, Tighten, Certify, Search}
+use Rattle.lines.specs.declared.request.Request.the-variants.{Load, Add, Shift, Tighten, Certify, Search, Save}
 use Rattle.lines.specs.declared.request.Line.the-variants.{Refused}
 use Rattle.lines.specs.Kinds.{newKind, requestKind}
 use Rattle.lines.specs.Layout.{kindOf, moveWidth, weightWidth, addTrain, addChoice, addPoints, certifyFullWeight, searchBudget, weightField, liftField, moveField}
@@ -58,19 +58,21 @@ use Rattle.search.proofs.Theorems.{search-entries}
 use Rattle.replies.specs.Replies.{refusalReply, replyKind, figureWidth, boundOf, boundReply, certifyReply, searchReply, longestFixed}
 use Rattle.replies.specs.Shown.{kindShown}
 use Rattle.replies.proofs.ReadBack.{bound-kind, certify-kind, search-kind}
-use Rattle.requests.specs.Answer.{Answer, answered, declined, operated, certified, requested, lineAnswer}
+use Rattle.requests.specs.Answer.{Answer, answered, declined, operated, certified, saved, requested, lineAnswer}
 use Rattle.requests.proofs.LineCases.{line-cases}
+use Rattle.saving.proofs.Together.{save-kind}
 use Rattle.service.specs.Answer.{answer}
 use Rattle.service.specs.Calls.{exchange}
 use Rattle.service.proofs.AnswerCases.{fixed-fit, answer-cases}
 use Rattle.claims.specs.Ledger.{Ledger, accepted, byKind, changed, fed}
-use Rattle.claims.specs.Claims.{outside, malformed, BoundClaim, Claim, neverOutside, AtCall}
+use Rattle.claims.specs.Claims.{outside, malformed, BoundClaim, Claim, shownKind, neverOutside, AtCall}
 use Rattle.claims.proofs.ByKind.{by-kind}
 use Rattle.claims.proofs.Found.{ceiling-holds, known-plan, known-low, ended-least}
 use Rattle.claims.proofs.Keeps.{Keeps, bound-low, total-most, entry-most, scaled-most, held-total-most}
 use Rattle.claims.proofs.Kept.{load-keeps, rewritten-keeps, add-scaled, add-keeps}
 use Rattle.claims.proofs.Lines.{at-refused, at-accepted, other-refusal, empty-shows, bound-claim, ceiling-claim, Right, search-claim}
 use Rattle.claims.proofs.Accepted.{empty-refused, refusal-refused, kind-accepted}
+use Rattle.claims.proofs.SaveClaims.{save-claim}
 
 -- ---- what the ledger makes of a line
 
@@ -95,7 +97,7 @@ good-by : (g h : Ledger) (b : List ℤ) (l : List ℕ) (a : Answer) → fed (exc
 good-by g h b l a e k c = record { keeps = rw e k; call = rw e c }
 
 -- an accepted line of kind k, which is answered under k: by the ledger as k changes it
-good-kind : (g : Ledger) (b : List ℤ) (l : List ℕ) (k : Kind) (a : Answer) → newKind (kindOf l) ≡ Known k → kindShown (a .reply) ≡ replyKind k → Keeps (changed k l g) (a .block)
+good-kind : (g : Ledger) (b : List ℤ) (l : List ℕ) (k : Kind) (a : Answer) → newKind (kindOf l) ≡ Known k → kindShown (a .reply) ≡ shownKind k → Keeps (changed k l g) (a .block)
     → Claim k (changed k l g) b (exchange l (a .reply)) → Good g b l a
 good-kind g b l k a known shown keeps claim =
     good-by g (changed k l g) b l a (fed-kind g l (a .reply) k (kind-accepted k (a .reply) shown) known) keeps (at-accepted (changed k l g) b l (a .reply) k known shown claim)
@@ -132,17 +134,17 @@ good-declined {g} {b} k l r w = good-by g g b l (declined b r) (fed-refused g l 
 bound-fits : {b : List ℤ} → Study b → boundOf b < 256 ^ figureWidth
 bound-fits {b} s = omega (arith, rounded-most (scale b) (scale-range s .0) (constant b), constant-range s)
 
--- of a kind that claims no more
-good-bound : (g : Ledger) (old : List ℤ) (l : List ℕ) (k : Kind) (b : List ℤ) → newKind (kindOf l) ≡ Known k
+-- of a kind that claims no more and is answered under its own byte
+good-bound : (g : Ledger) (old : List ℤ) (l : List ℕ) (k : Kind) (b : List ℤ) → newKind (kindOf l) ≡ Known k → replyKind k ≡ shownKind k
     → (BoundClaim (changed k l g) (exchange l (boundReply k b)) → Claim k (changed k l g) old (exchange l (boundReply k b))) → Keeps (changed k l g) b → Good g old l (answered b (boundReply k b))
-good-bound g old l k b known claim keeps =
-    good-kind g old l k (answered b (boundReply k b)) known (bound-kind k b) keeps (claim (bound-claim (changed k l g) l k b (bound-fits (keeps .study)) (bound-low keeps)))
+good-bound g old l k b known own claim keeps =
+    good-kind g old l k (answered b (boundReply k b)) known (bound-kind k b ∙ own) keeps (claim (bound-claim (changed k l g) l k b (bound-fits (keeps .study)) (bound-low keeps)))
 
 -- ---- load, on any block
 
 pub good-load : (g : Ledger) (l : List ℕ) (b : List ℤ) → newKind (kindOf l) ≡ Known kind.Load → loadVerdict l ≡ Fine → Good g b l (requested (loadRequest l) l b)
 unfolding requested
-good-load g l b e v = good-bound g b l kind.Load (loadedBlock (numbersOf l)) e (λ c. c) (load-keeps (numbersOf l) (load-in-range l v))
+good-load g l b e v = good-bound g b l kind.Load (loadedBlock (numbersOf l)) e refl (λ c. c) (load-keeps (numbersOf l) (load-in-range l v))
 
 -- ---- the other kinds
 
@@ -162,7 +164,7 @@ module _ {g : Ledger} {b : List ℤ} (k : Keeps g b) (l : List ℕ) where
       go true h =
           let c = shifted lifts moves b in
           let v = shift-rewrites (k .study) lifts moves in
-          good-bound g b l kind.Shift c e (λ d. d) (rewritten-keeps k (rewrites-holds (k .study) v h) v)
+          good-bound g b l kind.Shift c e refl (λ d. d) (rewritten-keeps k (rewrites-holds (k .study) v h) v)
       go false h = good-declined k l PartsOutside (record { not-outside = λ w _. not-both w (by-kind neverOutside false l e); not-malformed = λ q. omega arith })
 
   -- a tightening is always done
@@ -173,7 +175,7 @@ module _ {g : Ledger} {b : List ℤ} (k : Keeps g b) (l : List ℕ) where
       let h = tighten-within (k .study) (held-total-most k) in
       let v = tighten-rewrites (k .study) in
       rw h
-      (good-bound g b l kind.Tighten c e (λ d. d) (rewritten-keeps k (rewrites-holds (k .study) v h) v))
+      (good-bound g b l kind.Tighten c e refl (λ d. d) (rewritten-keeps k (rewrites-holds (k .study) v h) v))
 
   -- ---- an addition
 
@@ -212,14 +214,14 @@ module _ {g : Ledger} {b : List ℤ} (k : Keeps g b) (l : List ℕ) where
         (λ n.
         let d = within-done (omega arith) in
         by (sym d)
-        (good-bound g b l kind.Add sum-block e (λ c. c)
+        (good-bound g b l kind.Add sum-block e refl (λ c. c)
         (add-keeps l k there in-size (rw d at (add-study (k .study) (addTrain l) (addChoice l) (addPoints l) there in-size)))))
       where
         by : {v : Verdict} → v ≡ addOutcome (addTrain l) (addChoice l) (addPoints l) b → Good g b l (operated kind.Add v b sum-block)
             → Good g b l (requested (addRequest l) l b)
         by q x = subst (λ (v : Verdict). Good g b l (operated kind.Add v b sum-block)) q x
 
-  -- ---- certificates and searches change nothing
+  -- ---- certificates, searches and saves change nothing
 
   good-certify : newKind (kindOf l) ≡ Known kind.Certify → (1 ≤ certifyFullWeight l) × (certifyFullWeight l ≤ maxFullWeight) → Good g b l (requested (certifyRequest l (weightCount (shapeOf b))) l b)
   unfolding requested
@@ -254,6 +256,10 @@ module _ {g : Ledger} {b : List ℤ} (k : Keeps g b) (l : List ℕ) where
       let f = searchAnswer b (searchBudget l) in
       good-kind g b l kind.Search (answered b (searchReply (trains b) f)) e (search-kind (trains b) f) k (search-claim g l (trains b) f (found-right (searchBudget l)))
 
+  good-save : newKind (kindOf l) ≡ Known kind.Save → Good g b l (requested Save l b)
+  unfolding requested
+  good-save e = good-kind g b l kind.Save (saved b) e (save-kind (k .study)) k (save-claim k l)
+
   -- ---- every request
 
   as-asked : (q r : Request) → q ≡ r → Good g b l (requested r l b) → Good g b l (requested q l b)
@@ -268,18 +274,24 @@ module _ {g : Ledger} {b : List ℤ} (k : Keeps g b) (l : List ℕ) where
   good-request Tighten m e = good-tighten e
   good-request (Certify q) m e = as-asked (Certify q) (certifyRequest l (weightCount (shapeOf b))) (m .0) (good-certify e (certify-fine l (weightCount (shapeOf b)) (m .1) .fullWeight))
   good-request (Search q) m e = as-asked (Search q) (searchRequest l) (m .0) (good-search e)
+  good-request Save m e = good-save e
+
+  -- 17, at once or for a reply that does not fit
+  good-empty : Good g b l (answered b [])
+  good-empty = good-by g g b l (answered b []) (fed-refused g l [] empty-refused) k (empty-call g b l)
 
   -- a line on a block that the ledger keeps, where there is room for every fixed reply
   pub good-line : (room : ℕ) → longestFixed ≤ room → Good g b l (lineAnswer l b room)
   good-line room h =
       line-cases l b room h (study-well-formed (k .study)) (Good g b l)
       (λ r e. good-declined k l r (line-allowed l b r e))
-      (λ q a. good-request q (line-makes l b q (a .asked) .1) (line-known l b q (a .asked)))
+      (λ q a f. good-request q (line-makes l b q (a .asked) .1) (line-known l b q (a .asked)))
+      (λ q a f. good-empty)
 
   -- a call on it
   pub good-call : (buffer : List ℕ) → Good g b l (answer l b buffer)
   good-call buffer =
       answer-cases l b buffer (Good g b l)
-      (λ h. good-by g g b l (answered b []) (fed-refused g l [] empty-refused) k (empty-call g b l))
+      (λ h. good-empty)
       (λ e. absurd (not-both (study-well-formed (k .study)) e))
       (λ h e. good-line (length buffer) (fixed-fit buffer h))

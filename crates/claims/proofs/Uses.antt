@@ -11,19 +11,27 @@ use lib.IntN.{ℤ}
 use lib.ListN.{length, take}
 use Rattle.theory.specs.Sum.{sum}
 use Rattle.theory.specs.Lists.{listFrom}
+use Rattle.theory.specs.Range.{pass}
 use Rattle.theory.proofs.Range.{not-both}
+use Rattle.refusals.specs.declared.Refusal.the-variants.{Fields}
+use Rattle.refusals.specs.Verdicts.{firstOf}
 use Rattle.tables.specs.Block.{trains, scale, pairs, constant, size, first, second, loadedChoice, loadedEntry}
 use Rattle.tables.specs.WellFormed.{freshBlock}
 use Rattle.tables.specs.Plans.{IsPlan, choiceTotal, pairTotal, total, heldTotal}
 use Rattle.certificates.specs.Rival.{asFraction, plus, times, sumOf, Same, AtMost, Rival, rivalTotal, IsRival, ConstantAtMost}
 use Rattle.frames.specs.Digits.{digit, byteAt}
 use Rattle.frames.specs.Fields.{field}
+use Rattle.frames.specs.Frames.{allDigits, framed}
 use Rattle.frames.specs.Text.{codes}
-use Rattle.lines.specs.declared.kind.Kind.the-variants.{Load, Add, Shift, Tighten, Certify, Search}
+use Rattle.lines.specs.declared.kind.Kind.the-variants.{Load, Add, Shift, Tighten, Certify, Search, Save}
 use Rattle.lines.specs.declared.kind.NewKind.the-variants.{Known, NoSuch}
+use Rattle.lines.specs.declared.request.Line.the-variants.{Asked, Refused}
 use Rattle.lines.specs.Kinds.{newKind}
 use Rattle.lines.specs.Layout.{pairAt}
+use Rattle.lines.specs.Verdicts.{fieldVerdict}
+use Rattle.kinds.specs.Load.{pairOrdered, pairVerdict, headVerdict, restVerdict, loadVerdict}
 use Rattle.decoding.specs.Numbers.{entriesOf, numbersOf}
+use Rattle.reader.specs.Reading.{studyLine, kindLine, lineOf}
 use Rattle.replies.specs.Replies.{boundOf}
 use Rattle.replies.specs.Shown.{boundShown}
 use Rattle.requests.specs.Answer.{lineAnswer}
@@ -95,6 +103,21 @@ module _ {b : List ℤ} where
   other-kind : AtLine j b (told load "84000000000000000000000000") → ⊥
   unfolding told load
   other-kind a = let h : _≡_ {A = ℕ} 132 129 = line-answered a Load refl in omega arith
+
+  -- an 07 line answered under 87
+  save-under-87 : AtLine j b (told "07" "87") → ⊥
+  unfolding told
+  save-under-87 a = let h : _≡_ {A = ℕ} 135 1 = line-answered a Save refl in omega arith
+
+  -- a saved line with a cost of 3 where the ledger has 2
+  other-save : AtLine j b (told "07" "010200010202000003000000000000000000010001000001000000000003000002") → ⊥
+  unfolding told load j
+  other-save a = let h : _≡_ {A = ℕ} 3 2 = line-claim a Save refl .gives .choices-same 0 0 (omega arith) (omega arith) in omega arith
+
+  -- a saved line with a byte left over, which no block takes
+  long-save : AtLine j b (told "07" "01020001020200000200000000000000000001000100000100000000000300000200") → ⊥
+  unfolding told load firstOf pass allDigits framed fieldVerdict pairOrdered pairVerdict headVerdict restVerdict loadVerdict studyLine kindLine lineOf
+  long-save a = let z : Refused Fields ≡ Asked _ = line-claim a Save refl .taken freshBlock in let h : _≡_ {A = ℕ} 0 1 = cc in omega arith
 
   -- a bound of 3, to each kind that shows a bound
   high-bound : AtLine j b (told load "81000000000000000000000003") → ⊥

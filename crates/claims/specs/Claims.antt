@@ -9,16 +9,21 @@ use lib.IntN.{ℤ}
 use Rattle.tables.specs.Block.{trains, scale, pairs, constant, size, first, second, loadedChoice, loadedEntry}
 use Rattle.tables.specs.WellFormed.{wellFormed, freshBlock}
 use Rattle.tables.specs.Plans.{AlikeShapes, IsPlan, shapeOf, heldTotal}
+use Rattle.tables.specs.Counts.{rowsOf, columnsOf}
 use Rattle.certificates.specs.Rival.{Rival, IsRival, ConstantAtMost}
 use Rattle.lines.specs.declared.kind.Kind.{Kind}
-use Rattle.lines.specs.declared.kind.Kind.the-variants.{Load, Add, Shift, Tighten, Certify, Search}
+use Rattle.lines.specs.declared.kind.Kind.the-variants.{Load, Add, Shift, Tighten, Certify, Search, Save}
 use Rattle.lines.specs.declared.kind.NewKind.the-variants.{Known}
-use Rattle.lines.specs.Kinds.{newKind}
+use Rattle.lines.specs.declared.request.Line.the-variants.{Asked}
+use Rattle.lines.specs.Kinds.{kindNumber, newKind}
 use Rattle.lines.specs.Layout.{kindOf}
+use Rattle.kinds.specs.Load.{loadRequest}
+use Rattle.decoding.specs.Numbers.{numbersOf}
+use Rattle.reader.specs.Reading.{lineOf}
 use Rattle.replies.specs.Replies.{boundOf, refusalByte, replyKind, flag}
 use Rattle.replies.specs.Shown.{kindShown, numberShown, boundShown, flagShown, weightedShown, fullWeightShown, saysEnded, costShown, planShown, showsPlan}
 use Rattle.service.specs.Calls.{Call, Exchange, lastBlock, blocks, exchanges}
-use Rattle.claims.specs.Ledger.{Ledger, accepted, byKind, fed, ledgerOf, emptyLedger, costOf, hasLoad}
+use Rattle.claims.specs.Ledger.{Ledger, accepted, numbersLedger, byKind, fed, ledgerOf, emptyLedger, costOf, hasLoad}
 
 -- a plan of a ledger
 abbrev pub PlanOf : Ledger → (ℕ → ℕ) → Type 0
@@ -71,6 +76,20 @@ pub record SearchClaim (g : Ledger) (e : Exchange) : Type 0 where
   -- 'If it says ended, every other plan costs, at that line, at least as much' (`worse-plan`)
   pub least : saysEnded (e .reply) ≡ true → (x : ℕ → ℕ) → PlanOf g x → costShown (e .reply) ≤ costOf g x
 
+-- two ledgers know the same study: n, s, sizes and pairs, and the costs of the choices and entries that there are
+pub record SameLedger (h g : Ledger) : Type 0 where
+  pub shape-same : AlikeShapes (h .shape) (g .shape)
+  pub scale-same : h .scale ≡ g .scale
+  pub choices-same : (i a : ℕ) → i < h .shape .trains → a < h .shape .size i → h .costs .choice i a ≡ g .costs .choice i a
+  pub entries-same : (k a c : ℕ) → k < h .shape .pairs → a < rowsOf (h .shape) k → c < columnsOf (h .shape) k → h .costs .pair k a c ≡ g .costs .pair k a c
+
+-- document 02, change 1: the reply to a save is a load line
+pub record SaveClaim (g : Ledger) (e : Exchange) : Type 0 where
+  -- that every block takes (`long-save`)
+  pub taken : (b : List ℤ) → lineOf (e .reply) b ≡ Asked (loadRequest (e .reply))
+  -- 'read as a load line, its reply gives the ledger's n, s, sizes, pairs and costs at that line' (`other-save`)
+  pub gives : SameLedger (numbersLedger (numbersOf (e .reply))) g
+
 -- each kind's own (`high-bound`, `high-added`, `high-shifted`, `high-tightened`)
 abbrev pub Claim : Kind → Ledger → List ℤ → Exchange → Type 0
 Claim Load g b e = BoundClaim g e
@@ -79,13 +98,24 @@ Claim Shift g b e = BoundClaim g e
 Claim Tighten g b e = BoundClaim g e
 Claim Certify g b e = CeilingClaim g b e
 Claim Search g b e = SearchClaim g e
+Claim Save g b e = SaveClaim g e
+
+-- 'Kinds 01 to 04: 81 to 84', 'Certify: 85', 'Search: 86'; a save's reply, a load line, begins with 01
+abbrev pub shownKind : Kind → ℕ
+shownKind Load = replyKind Load
+shownKind Add = replyKind Add
+shownKind Shift = replyKind Shift
+shownKind Tighten = replyKind Tighten
+shownKind Certify = replyKind Certify
+shownKind Search = replyKind Search
+shownKind Save = kindNumber Load
 
 pub record AtLine (g : Ledger) (b : List ℤ) (e : Exchange) : Type 0 where
   -- 'The first byte is the kind': an accepted line has one (`no-kind`)
   pub kind : Kind
   pub known : newKind (kindOf (e .line)) ≡ Known kind
-  -- 'Kinds 01 to 04: 81 to 84', 'Certify: 85', 'Search: 86': it is answered under its own kind (`other-kind`)
-  pub answered : kindShown (e .reply) ≡ replyKind kind
+  -- it is answered under its own kind (`other-kind`, `save-under-87`)
+  pub answered : kindShown (e .reply) ≡ shownKind kind
   -- and what its kind claims holds
   pub claim : Claim kind g b e
 
@@ -99,6 +129,7 @@ neverOutside Shift = false
 neverOutside Tighten = true
 neverOutside Certify = false
 neverOutside Search = false
+neverOutside Save = false
 
 pub record AtCall (g : Ledger) (b : List ℤ) (e : Exchange) : Type 0 where
   -- 'A line is accepted if its reply isn't empty and doesn't begin with FF'

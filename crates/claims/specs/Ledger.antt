@@ -7,7 +7,7 @@ use lib.ListN.{length}
 use Rattle.tables.specs.Numbers.{Numbers, numbers, numbersShape, numbersCosts}
 use Rattle.tables.specs.Plans.{Shape, Costs, total}
 use Rattle.lines.specs.declared.kind.Kind.{Kind}
-use Rattle.lines.specs.declared.kind.Kind.the-variants.{Load, Add, Shift, Tighten, Certify, Search}
+use Rattle.lines.specs.declared.kind.Kind.the-variants.{Load, Add, Shift, Tighten, Certify, Search, Save}
 use Rattle.lines.specs.declared.kind.NewKind.{NewKind}
 use Rattle.lines.specs.declared.kind.NewKind.the-variants.{Known, NoSuch}
 use Rattle.lines.specs.Kinds.{newKind}
@@ -69,6 +69,7 @@ changed Shift l g = g
 changed Tighten l g = g
 changed Certify l g = g
 changed Search l g = g
+changed Save l g = g
 
 -- 'a list with an accepted load': the kinds that load
 abbrev pub loads : Kind → Bool
@@ -78,6 +79,7 @@ loads Shift = false
 loads Tighten = false
 loads Certify = false
 loads Search = false
+loads Save = false
 
 -- ---- lists of lines with their replies
 

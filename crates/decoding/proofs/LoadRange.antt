@@ -57,7 +57,7 @@ module _ (l : List ℕ) (f : FineLoad l) where
       (append-costs (entriesOf l k) _ (entry-costs k (omega arith)) (run-costs l (entryField (pairAt l k) .at) (entryCount l (pairAt l k)) (load-pair f k (omega arith) .costs)) o)
 
   -- the two sizes of pair k, read off the lists
-  pair-sizes : (k : ℕ) → k < loadPairs l
+  pub pair-sizes : (k : ℕ) → k < loadPairs l
       → nth (listOf (loadTrains l) (loadSize l)) (nth (listOf (loadPairs l) (loadFirst l)) k) * nth (listOf (loadTrains l) (loadSize l)) (nth (listOf (loadPairs l) (loadSecond l)) k)
       ≡ entryCount l (pairAt l k)
   pair-sizes k h =
@@ -69,7 +69,7 @@ module _ (l : List ℕ) (f : FineLoad l) where
         list-nth (loadSize l) 0 (loadTrains l) (loadSecond l k) (o .second-below),
       )
 
-  entry-start : (k : ℕ) → k ≤ loadPairs l
+  pub entry-start : (k : ℕ) → k ≤ loadPairs l
       → length (entriesOf l k) ≡ entriesBefore (listShape (listOf (loadTrains l) (loadSize l)) (listOf (loadPairs l) (loadFirst l)) (listOf (loadPairs l) (loadSecond l))) k
   entry-start zero h = rw (entries-none l) (sym (sum-none _))
   entry-start (suc k) h =

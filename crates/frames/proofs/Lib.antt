@@ -4,3 +4,4 @@ pub mod Widths
 pub mod RoundTrip
 pub mod RunDigits
 pub mod Stands
+pub mod There

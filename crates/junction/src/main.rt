@@ -31,18 +31,24 @@ fn read(bytes: &mut [u8; INPUT]) -> isize {
     libc::read(STDIN_FILENO, bytes)
 }
 
-// Writes what a step on a part prints to standard output, and does nothing else. Part and block stand here for the contract alone.
-fn print_step(part: &[u8], block: &[i64; Block::LENGTH], reply: &[u8]) -> bool
-    requires { ⌜ StepPrints (now part) (now block) (now reply) ⌝ }
+// Writes the first n characters of `reply`, which a step on a part prints, to standard output, and does nothing else. Part and block stand here for the contract alone.
+fn print_step(part: &[u8], block: &[i64; Block::LENGTH], reply: &[u8], n: usize) -> bool
+    requires { ⌜ (n ≤ length (now reply)) × StepPrints (now part) (now block) (take n (now reply)) ⌝ }
 {
-    io::write_all(STDOUT_FILENO, reply)
+    io::write_all(STDOUT_FILENO, &reply[..n])
 }
 
 // The same at the end of the input, where `kept` characters of the last line are kept.
-fn print_end(line: &[u8; KEPT], kept: usize, block: &[i64; Block::LENGTH], reply: &[u8]) -> bool
-    requires { ⌜ EndPrints (take kept (now line)) (now block) (now reply) ⌝ }
+fn print_end(
+    line: &[u8; KEPT],
+    kept: usize,
+    block: &[i64; Block::LENGTH],
+    reply: &[u8],
+    n: usize,
+) -> bool
+    requires { ⌜ (n ≤ length (now reply)) × EndPrints (take kept (now line)) (now block) (take n (now reply)) ⌝ }
 {
-    io::write_all(STDOUT_FILENO, reply)
+    io::write_all(STDOUT_FILENO, &reply[..n])
 }
 
 // Answers the lines that end in the first n bytes, each with one write. It goes on unless a write fails.
@@ -52,21 +58,21 @@ fn answer_part(
     line: &mut [u8; KEPT],
     kept: usize,
     block: &mut [i64; Block::LENGTH],
+    reply: &mut [u8; REPLY],
 ) -> Kept
     requires { ⌜ n ≤ length (now bytes) ⌝ }
     requires { ⌜ AfterParts (now line) (now block) kept ⌝ }
     ensures { λ r. ⌜ (r .on ≡ true → Leaves (overPart (take kept (now (line .entry))) (now (block .entry)) (take n (now (bytes .entry)))) (now (line .exit)) (now (block .exit)) (r .length)) ⌝ }
 {
-    let mut reply = [0u8; REPLY];
     let mut length = kept;
     let mut at = 0;
     while at < n {
         let rest = &bytes[at..n];
-        let step = splitting::next_line(rest, line, length, block, &mut reply);
+        let step = splitting::next_line(rest, line, length, block, reply);
         length = step.kept;
         at += step.used;
         let written = step.written;
-        if !print_step(rest, block, &reply[..written]) {
+        if !print_step(rest, block, reply, written) {
             return Kept {
                 length: length,
                 on: false,
@@ -80,13 +86,17 @@ fn answer_part(
 }
 
 // At the end of the input: 'A last line without a line end is a line too, unless empty.'
-fn answer_last(line: &[u8; KEPT], kept: usize, block: &mut [i64; Block::LENGTH])
+fn answer_last(
+    line: &[u8; KEPT],
+    kept: usize,
+    block: &mut [i64; Block::LENGTH],
+    reply: &mut [u8; REPLY],
+)
     requires { ⌜ AfterParts (now line) (now block) kept ⌝ }
     ensures { λ _. ⌜ now (block .exit) ≡ lastAnswer (take kept (now (line .entry))) (now (block .entry)) .block ⌝ }
 {
-    let mut reply = [0u8; REPLY];
-    let n = splitting::last_line(line, kept, block, &mut reply);
-    print_end(line, kept, block, &reply[..n]);
+    let n = splitting::last_line(line, kept, block, reply);
+    print_end(line, kept, block, reply, n);
 }
 
 // After a read that answered `got`: answers what came, at the end of the input the last line. It goes on unless the input has ended, or a read or a write failed.
@@ -96,6 +106,7 @@ fn answer_read(
     line: &mut [u8; KEPT],
     kept: usize,
     block: &mut [i64; Block::LENGTH],
+    reply: &mut [u8; REPLY],
 ) -> Kept
     requires { ⌜ AfterParts (now line) (now block) kept ⌝ }
     ensures { λ r. ⌜ (r .on ≡ true → Leaves (overPart (take kept (now (line .entry))) (now (block .entry)) (take (clamped got (length (now (bytes .entry)))) (now (bytes .entry)))) (now (line .exit)) (now (block .exit)) (r .length)) ⌝ }
@@ -108,25 +119,26 @@ fn answer_read(
         };
     }
     if got == 0 {
-        answer_last(line, kept, block);
+        answer_last(line, kept, block, reply);
         return Kept {
             length: kept,
             on: false,
         };
     }
     let n = io::count(got, bytes);
-    answer_part(bytes, n, line, kept, block)
+    answer_part(bytes, n, line, kept, block, reply)
 }
 
 fn main() {
     let mut bytes = [0u8; INPUT];
     let mut line = [0u8; KEPT];
     let mut block = [0i64; Block::LENGTH];
+    let mut reply = [0u8; REPLY];
     let mut length = 0;
     let mut reads = READS;
     while 0 < reads {
         let got = read(&mut bytes);
-        let kept = answer_read(got, &bytes, &mut line, length, &mut block);
+        let kept = answer_read(got, &bytes, &mut line, length, &mut block, &mut reply);
         if !kept.on {
             return;
         }

@@ -1,4 +1,4 @@
-// Document 01, '04 tighten: no fields'.
+// Document 01, '04 tighten: no fields', and 07 save.
 ghost use mathlib.Core.Path.{_≡_};
 ghost use Rattle.frames.specs.Frames.{Framed};
 ghost use Rattle.kinds.specs.Lines.{bareVerdict, concluded};

@@ -35,7 +35,7 @@ const TRAINS: Field = Field {
 // s.
 const SCALE: Field = Field {
     at: TRAINS.at + TRAINS.width,
-    width: 2,
+    width: Load::SCALE_WIDTH,
     rule: Rule::Between(Scale::MIN, Scale::MAX),
     refusal: Refusal::Range,
 };

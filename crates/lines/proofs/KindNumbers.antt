@@ -6,7 +6,7 @@ use native.Mathlib.Omega.{arith}
 use lib.Dec.{eqb}
 use borrow.Author.Tests.{eqb-true}
 use Rattle.lines.specs.declared.kind.Kind.{Kind}
-use Rattle.lines.specs.declared.kind.Kind.the-variants.{Load, Add, Shift, Tighten, Certify, Search}
+use Rattle.lines.specs.declared.kind.Kind.the-variants.{Load, Add, Shift, Tighten, Certify, Search, Save}
 use Rattle.lines.specs.declared.kind.NewKind.{NewKind}
 use Rattle.lines.specs.declared.kind.NewKind.the-variants.{Known, NoSuch}
 use Rattle.lines.specs.Kinds.{kindNumber, kindIf, newKind}
@@ -20,6 +20,7 @@ number-kind Shift = refl
 number-kind Tighten = refl
 number-kind Certify = refl
 number-kind Search = refl
+number-kind Save = refl
 
 -- one kind's number, or another's
 module _ (n : ℕ) (k : Kind) where
@@ -34,7 +35,7 @@ module _ (n : ℕ) (k : Kind) where
   pub kind-number : newKind n ≡ Known k → n ≡ kindNumber k
   unfolding newKind
   kind-number =
-      kind-if Load _ (kind-if Add _ (kind-if Shift _ (kind-if Tighten _ (kind-if Certify _ (kind-if Search NoSuch (λ e. let z : _≡_ {A = ℕ} 0 1 = cc in absurd (omega arith)))))))
+      kind-if Load _ (kind-if Add _ (kind-if Shift _ (kind-if Tighten _ (kind-if Certify _ (kind-if Search _ (kind-if Save NoSuch (λ e. let z : _≡_ {A = ℕ} 0 1 = cc in absurd (omega arith))))))))
 
 -- so low that the reply to a line of this kind, whose first byte is 128 higher, is no refusal
 pub number-low : (k : Kind) → kindNumber k < 127
@@ -44,3 +45,4 @@ number-low Shift = omega arith
 number-low Tighten = omega arith
 number-low Certify = omega arith
 number-low Search = omega arith
+number-low Save = omega arith

@@ -7,9 +7,9 @@ use Rattle.lines.specs.declared.kind.Kind.the-variants as kind
 use Rattle.lines.specs.declared.kind.NewKind.{NewKind}
 use Rattle.lines.specs.declared.kind.NewKind.the-variants.{Known, NoSuch}
 use Rattle.lines.specs.declared.request.Request.{Request}
-use Rattle.lines.specs.declared.request.Request.the-variants.{Load, Add, Shift, Tighten, Certify, Search}
+use Rattle.lines.specs.declared.request.Request.the-variants.{Load, Add, Shift, Tighten, Certify, Search, Save}
 
--- '01 load', '02 add', '03 shift', '04 tighten', '05 certify', '06 search'
+-- '01 load', '02 add', '03 shift', '04 tighten', '05 certify', '06 search', '07 save'
 abbrev pub kindNumber : Kind → ℕ
 kindNumber kind.Load = 1
 kindNumber kind.Add = 2
@@ -17,6 +17,7 @@ kindNumber kind.Shift = 3
 kindNumber kind.Tighten = 4
 kindNumber kind.Certify = 5
 kindNumber kind.Search = 6
+kindNumber kind.Save = 7
 
 -- this kind where the number is its own
 abbrev pub kindIf : Kind → ℕ → NewKind → NewKind
@@ -30,9 +31,10 @@ newKind n =
     (kindIf kind.Shift n
     (kindIf kind.Tighten n
     (kindIf kind.Certify n
-    (kindIf kind.Search n NoSuch)))))
+    (kindIf kind.Search n
+    (kindIf kind.Save n NoSuch))))))
 
--- 4: 'kinds 02-06 on a fresh block'
+-- 4: 'kinds 02-06 on a fresh block', and 07
 abbrev pub needsStudy : Kind → Bool
 needsStudy kind.Load = false
 needsStudy kind.Add = true
@@ -40,6 +42,7 @@ needsStudy kind.Shift = true
 needsStudy kind.Tighten = true
 needsStudy kind.Certify = true
 needsStudy kind.Search = true
+needsStudy kind.Save = true
 
 -- the kind of a request
 abbrev pub requestKind : Request → Kind
@@ -49,3 +52,4 @@ requestKind (Shift q) = kind.Shift
 requestKind Tighten = kind.Tighten
 requestKind (Certify q) = kind.Certify
 requestKind (Search q) = kind.Search
+requestKind Save = kind.Save

@@ -2,3 +2,4 @@
 pub mod Kinds
 pub mod Layout
 pub mod Verdicts
+pub mod Text

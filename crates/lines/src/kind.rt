@@ -9,6 +9,7 @@ pub enum Kind {
     Tighten,
     Certify,
     Search,
+    Save,
 }
 
 // What the constructor of a kind answers.
@@ -33,6 +34,7 @@ impl Kind {
             4 => NewKind::Known(Kind::Tighten),
             5 => NewKind::Known(Kind::Certify),
             6 => NewKind::Known(Kind::Search),
+            7 => NewKind::Known(Kind::Save),
             _ => NewKind::NoSuch,
         }
     }
@@ -48,6 +50,7 @@ impl Kind {
             Kind::Tighten => 4,
             Kind::Certify => 5,
             Kind::Search => 6,
+            Kind::Save => 7,
         }
     }
 
@@ -62,6 +65,7 @@ impl Kind {
             Kind::Tighten => true,
             Kind::Certify => true,
             Kind::Search => true,
+            Kind::Save => true,
         }
     }
 }

@@ -1,6 +1,7 @@
-// Document 01, 'Lines': a read line is either a refusal or one of six requests, each with its own fields. Offsets, in bytes, stand for long fields.
+// Document 01, 'Lines': a read line is either a refusal or one of seven requests, each with its own fields. Offsets, in bytes, stand for long fields.
 use crate::field::Field;
 use refusals::Refusal;
+use tables::block::Block;
 use units::Points;
 use units::Scale;
 
@@ -19,10 +20,16 @@ pub struct Load {
 }
 
 impl Load {
+    // How many bytes a scale has.
+    pub const SCALE_WIDTH: usize = 2;
     // How many bytes a cost has.
     pub const COST_WIDTH: usize = 3;
     // How many bytes the two trains of a pair have.
     pub const PAIR_WIDTH: usize = 2 * Field::COUNT_WIDTH;
+    // The most choice costs.
+    pub const CHOICE_COSTS: usize = Block::TRAINS * Block::CHOICES;
+    // The most costs of all pairs.
+    pub const ENTRIES: usize = Block::PAIRS * Block::ENTRIES;
 }
 
 pub struct Add {
@@ -63,6 +70,7 @@ pub enum Request {
     Tighten,
     Certify(Certify),
     Search(Search),
+    Save,
 }
 
 pub enum Line {

@@ -228,6 +228,28 @@ module _ {l : Numbers} (r : InRange l) where
     pub load-held-entry : heldEntry (loadedBlock l) k a c ≡ l .scale * numbersCosts l .pair k a c
     load-held-entry = figure-at (loadedBlock l) (heldEntryPlace k a c) _ (at-entry k a c h p q .other)
 
+-- ---- used offsets, and places by their offsets, in every block
+
+-- whose costs stand at a used offset of a table of choices
+pub used-choice : (b : List ℤ) (o : ℕ) → choiceUsed b o ≡ true → (o / maxChoices < trains b) × (o % maxChoices < size b (o / maxChoices))
+unfolding choiceUsed
+used-choice b o t =
+    let w = both-true (ltb (o / maxChoices) (trains b)) (ltb (o % maxChoices) (size b (o / maxChoices))) t in
+    (ltb-true _ _ (w .0), ltb-true _ _ (w .1))
+
+-- and of a table of pairs
+pub used-entry : (b : List ℤ) (o : ℕ) → entryUsed b o ≡ true
+    → (o / entriesOfPair < pairs b) × (o % entriesOfPair / maxChoices < size b (first b (o / entriesOfPair))) × (o % maxChoices < size b (second b (o / entriesOfPair)))
+unfolding entryUsed
+used-entry b o t =
+    let w = both-true (ltb (o / entriesOfPair) (pairs b)) (ltb (o % entriesOfPair / maxChoices) (size b (first b (o / entriesOfPair))) && ltb (o % maxChoices) (size b (second b (o / entriesOfPair)))) t in
+    let u = both-true (ltb (o % entriesOfPair / maxChoices) (size b (first b (o / entriesOfPair)))) (ltb (o % maxChoices) (size b (second b (o / entriesOfPair)))) (w .1) in
+    (ltb-true _ _ (w .0), ltb-true _ _ (u .0), ltb-true _ _ (u .1))
+
+-- what holds at each offset holds at the places from `from` on
+pub region : (P : ℕ → Type 0) (from count p : ℕ) → ((o : ℕ) → o < count → P (from + o)) → from ≤ p → p < from + count → P p
+region P from count p law h q = let e : from + (p - from) ≡ p = omega arith in rw e at (law (p - from) (omega arith))
+
 -- ---- the block holds a study
 
 abbrev Right : List ℤ → ℕ → Type 0
@@ -278,11 +300,10 @@ module _ {l : Numbers} (r : InRange l) where
   -- ---- the tables of choices
 
   choice-there : (o : ℕ) → choiceUsed (loadedBlock l) o ≡ true → (o / maxChoices < length (l .sizes)) × (o % maxChoices < nth (l .sizes) (o / maxChoices))
-  unfolding choiceUsed
   choice-there o t =
-      let w = both-true (ltb (o / maxChoices) (trains (loadedBlock l))) (ltb (o % maxChoices) (size (loadedBlock l) (o / maxChoices))) t in
-      let h : o / maxChoices < length (l .sizes) = omega (arith, ltb-true, load-trains r) in
-      (h, omega (arith, ltb-true, load-size r (o / maxChoices) h))
+      let w = used-choice (loadedBlock l) o t in
+      let h : o / maxChoices < length (l .sizes) = omega (arith, w .0, load-trains r) in
+      (h, omega (arith, w .1, load-size r (o / maxChoices) h))
 
   choice-apart : (o : ℕ) → choiceUsed (loadedBlock l) o ≡ false → (i a : ℕ) → i < length (l .sizes) → a < nth (l .sizes) i → o ≢ maxChoices * i + a
   choice-apart o f i a h q e =
@@ -318,7 +339,8 @@ module _ {l : Numbers} (r : InRange l) where
 
   -- ---- the tables of pairs
 
-  lanes-of : (k : ℕ) → k < length (l .firsts)
+  -- the rows and the columns of a pair
+  pub lanes-of : (k : ℕ) → k < length (l .firsts)
       → (size (loadedBlock l) (first (loadedBlock l) k) ≡ rowsOf (numbersShape l) k) × (size (loadedBlock l) (second (loadedBlock l) k) ≡ columnsOf (numbersShape l) k)
   lanes-of k h =
       let w = r .below k h in (
@@ -328,13 +350,10 @@ module _ {l : Numbers} (r : InRange l) where
 
   entry-there : (o : ℕ) → entryUsed (loadedBlock l) o ≡ true
       → (o / entriesOfPair < length (l .firsts)) × (o % entriesOfPair / maxChoices < rowsOf (numbersShape l) (o / entriesOfPair)) × (o % maxChoices < columnsOf (numbersShape l) (o / entriesOfPair))
-  unfolding entryUsed
   entry-there o t =
-      let b = loadedBlock l in
-      let w = both-true (ltb (o / entriesOfPair) (pairs b)) (ltb (o % entriesOfPair / maxChoices) (size b (first b (o / entriesOfPair))) && ltb (o % maxChoices) (size b (second b (o / entriesOfPair)))) t in
-      let u = both-true (ltb (o % entriesOfPair / maxChoices) (size b (first b (o / entriesOfPair)))) (ltb (o % maxChoices) (size b (second b (o / entriesOfPair)))) (w .1) in
-      let h : o / entriesOfPair < length (l .firsts) = omega (arith, ltb-true, load-pairs r) in
-      (h, omega (arith, ltb-true, lanes-of (o / entriesOfPair) h), omega (arith, ltb-true, lanes-of (o / entriesOfPair) h))
+      let w = used-entry (loadedBlock l) o t in
+      let h : o / entriesOfPair < length (l .firsts) = omega (arith, w .0, load-pairs r) in
+      (h, omega (arith, w .1, lanes-of (o / entriesOfPair) h), omega (arith, w .2, lanes-of (o / entriesOfPair) h))
 
   entry-apart : (o : ℕ) → entryUsed (loadedBlock l) o ≡ false
       → (k a c : ℕ) → k < length (l .firsts) → a < rowsOf (numbersShape l) k → c < columnsOf (numbersShape l) k → o ≢ entriesOfPair * k + (maxChoices * a + c)
@@ -368,20 +387,16 @@ module _ {l : Numbers} (r : InRange l) where
 
   -- ---- every place
 
-  -- the places from `from` on
-  region : (from count p : ℕ) → ((o : ℕ) → o < count → Right (loadedBlock l) (from + o)) → from ≤ p → p < from + count → Right (loadedBlock l) p
-  region from count p law h q = let e : from + (p - from) ≡ p = omega arith in rw e at (law (p - from) (omega arith))
-
   every-place : (p : ℕ) → p < blockLength → Right (loadedBlock l) p
   every-place p h =
       dite (decLt p sizesFrom) (λ (q : p < sizesFrom). head-right p q)
-      (λ n. dite (decLt p firstsFrom) (λ (q : p < firstsFrom). region sizesFrom maxTrains p size-right (omega arith) (omega arith))
-      (λ n. dite (decLt p secondsFrom) (λ (q : p < secondsFrom). region firstsFrom maxPairs p first-right (omega arith) (omega arith))
-      (λ n. dite (decLt p loadedChoicesFrom) (λ (q : p < loadedChoicesFrom). region secondsFrom maxPairs p second-right (omega arith) (omega arith))
-      (λ n. dite (decLt p heldChoicesFrom) (λ (q : p < heldChoicesFrom). region loadedChoicesFrom (maxTrains * maxChoices) p loaded-choices-right (omega arith) (omega arith))
-      (λ n. dite (decLt p loadedEntriesFrom) (λ (q : p < loadedEntriesFrom). region heldChoicesFrom (maxTrains * maxChoices) p held-choices-right (omega arith) (omega arith))
-      (λ n. dite (decLt p heldEntriesFrom) (λ (q : p < heldEntriesFrom). region loadedEntriesFrom (maxPairs * entriesOfPair) p loaded-entries-right (omega arith) (omega arith))
-      (λ n. region heldEntriesFrom (maxPairs * entriesOfPair) p held-entries-right (omega arith) (omega arith))))))))
+      (λ n. dite (decLt p firstsFrom) (λ (q : p < firstsFrom). region (Right (loadedBlock l)) sizesFrom maxTrains p size-right (omega arith) (omega arith))
+      (λ n. dite (decLt p secondsFrom) (λ (q : p < secondsFrom). region (Right (loadedBlock l)) firstsFrom maxPairs p first-right (omega arith) (omega arith))
+      (λ n. dite (decLt p loadedChoicesFrom) (λ (q : p < loadedChoicesFrom). region (Right (loadedBlock l)) secondsFrom maxPairs p second-right (omega arith) (omega arith))
+      (λ n. dite (decLt p heldChoicesFrom) (λ (q : p < heldChoicesFrom). region (Right (loadedBlock l)) loadedChoicesFrom (maxTrains * maxChoices) p loaded-choices-right (omega arith) (omega arith))
+      (λ n. dite (decLt p loadedEntriesFrom) (λ (q : p < loadedEntriesFrom). region (Right (loadedBlock l)) heldChoicesFrom (maxTrains * maxChoices) p held-choices-right (omega arith) (omega arith))
+      (λ n. dite (decLt p heldEntriesFrom) (λ (q : p < heldEntriesFrom). region (Right (loadedBlock l)) loadedEntriesFrom (maxPairs * entriesOfPair) p loaded-entries-right (omega arith) (omega arith))
+      (λ n. region (Right (loadedBlock l)) heldEntriesFrom (maxPairs * entriesOfPair) p held-entries-right (omega arith) (omega arith))))))))
 
   follows-at : (k : ℕ) → k < length (l .firsts) → follows (loadedBlock l) k ≡ true
   unfolding follows

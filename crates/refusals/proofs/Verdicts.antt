@@ -24,6 +24,9 @@ pub then-fine : (v w : Verdict) → then v w ≡ Fine → (v ≡ Fine) × (w ≡
 then-fine Fine w e = (refl, e)
 then-fine (Declined r) w e = let z : _≡_ {A = ℕ} 0 1 = cc in absurd (omega arith)
 
+pub then-both : (v w : Verdict) → v ≡ Fine → w ≡ Fine → then v w ≡ Fine
+then-both v w e f = rw (e, f)
+
 pub unless-fine : (t : Bool) (r : Refusal) → unless t r ≡ Fine → t ≡ true
 unless-fine true r e = refl
 unless-fine false r e = let z : _≡_ {A = ℕ} 0 1 = cc in absurd (omega arith)
@@ -57,6 +60,11 @@ module _ (f : ℕ → Verdict) where
   -- a loop that ends with the answer r of its turn
   pub stopped : {t : Bool} (n k : ℕ) (r : Verdict) → k < n → firstOf k f ≡ Fine → t ≡ isFine r → r ≡ f k → not t ≡ true → r ≡ firstOf n f
   stopped n k r h e d q g = q ∙ sym (first-declined n k h e (ap isFine (sym q) ∙ sym d ∙ not-true _ g))
+
+  pub first-all : (n : ℕ) → ((k : ℕ) → k < n → f k ≡ Fine) → firstOf n f ≡ Fine
+  unfolding firstOf
+  first-all zero h = refl
+  first-all (suc n) h = then-both (firstOf n f) (f n) (first-all n (λ k q. h k (omega arith))) (h n (omega arith))
 
   pub first-fine : (n : ℕ) → firstOf n f ≡ Fine → (k : ℕ) → k < n → f k ≡ Fine
   unfolding firstOf

@@ -1,8 +1,11 @@
 -- What a request answers: an operation by its outcome and the block that it leaves, the others by what was found.
 use mathlib.Core.Path.{_≡_, refl, sym, ap, _∙_}
-use mathlib.Core.List.{List}
+use mathlib.Core.Bool.{Bool, true, false, cond}
+use mathlib.Core.List.{List, []}
 use Prim.Native.Nat.{ℕ}
+use lib.Dec.{ltb}
 use lib.IntN.{ℤ}
+use lib.ListN.{length}
 use Rattle.refusals.specs.declared.Verdict.{Verdict}
 use Rattle.refusals.specs.declared.Verdict.the-variants.{Fine, Declined}
 use Rattle.refusals.specs.Verdicts.{settled}
@@ -23,13 +26,13 @@ use Rattle.lines.specs.declared.request.Add.{Add}
 use Rattle.lines.specs.declared.request.Shift.{Shift}
 use Rattle.lines.specs.declared.request.Search.{Search}
 use Rattle.lines.specs.declared.request.Certify.{Certify}
-use Rattle.lines.specs.declared.request.Request.the-variants.{Load as load-of, Add as add-of, Shift as shift-of, Tighten as tighten-of, Certify as certify-of, Search as search-of}
+use Rattle.lines.specs.declared.request.Request.the-variants.{Load as load-of, Add as add-of, Shift as shift-of, Tighten as tighten-of, Certify as certify-of, Search as search-of, Save as save-of}
 use Rattle.lines.specs.Layout.{moveWidth, weightWidth}
 use Rattle.decoding.specs.Numbers.{numbersOf}
 use Rattle.search.specs.Answer.{searchAnswer}
 use Rattle.replies.specs.Replies.{boundReply, searchReply}
 use Rattle.replies.specs.Wrote.{Wrote}
-use Rattle.requests.specs.Answer.{operated, certified, requested}
+use Rattle.requests.specs.Answer.{answered, operated, certified, saved, requested, fitted}
 use Rattle.requests.specs.Wrote.{Answers}
 
 -- the block that an operation leaves, with the reply by its outcome and that block
@@ -86,7 +89,17 @@ pub certify-answers : (l : List ℕ) (b : List ℤ) (q : Certify) {buffer after 
 unfolding requested
 certify-answers l b q w = record { block = sym (certified-leaves (q .full) (certificate b (weightsOf b (q .full) (runOf l (q .weights .at) weightWidth (q .weights .count)))) b); reply = w }
 
--- and so does a search
+-- and so does a save, whether its line fits or not
+pub save-answers : (l : List ℕ) (b : List ℤ) (room : ℕ) {buffer after : List ℕ} {n : ℕ} → Wrote buffer (fitted room b (saved b) .reply) after n
+    → Answers (fitted room b (requested save-of l b)) buffer b after n
+unfolding requested
+save-answers l b room {buffer} {after} {n} w = go (ltb room (length (saved b .reply))) w
+  where
+    go : (t : Bool) → Wrote buffer (cond t (answered b []) (saved b) .reply) after n → Answers (cond t (answered b []) (saved b)) buffer b after n
+    go true w = record { block = refl; reply = w }
+    go false w = record { block = refl; reply = w }
+
+-- and a search
 pub search-answers : (l : List ℕ) (b : List ℤ) (q : Search) {buffer after : List ℕ} {n : ℕ} → Wrote buffer (searchReply (trains b) (searchAnswer b (q .budget))) after n
     → Answers (requested (search-of q) l b) buffer b after n
 unfolding requested

@@ -10,8 +10,7 @@ use native.Mathlib.Omega.{arith}
 use borrow.Author.Tests.{eqb-true}
 use lib.Dec.{eqb}
 use lib.IntN.{ℤ, pos, negsuc, natAbs}
-use lib.ListN.{length, take, replicate, length-replicate}
-use lib.Seq.{length-take-le}
+use lib.ListN.{length}
 use lib.Signed.{mag}
 use Rattle.theory.specs.Lists.{listOf}
 use Rattle.theory.proofs.Range.{both-true}
@@ -40,7 +39,7 @@ use Rattle.lines.specs.declared.request.Shift.{Shift}
 use Rattle.lines.specs.declared.request.Certify.{Certify}
 use Rattle.lines.specs.declared.request.Search.{Search}
 use Rattle.lines.specs.declared.request.Request.{Request}
-use Rattle.lines.specs.declared.request.Request.the-variants.{Load as load-of, Add as add-of, Shift as shift-of, Tighten as tighten-of, Certify as certify-of, Search as search-of}
+use Rattle.lines.specs.declared.request.Request.the-variants.{Load as load-of, Add as add-of, Shift as shift-of, Tighten as tighten-of, Certify as certify-of, Search as search-of, Save as save-of}
 use Rattle.lines.specs.Layout.{costWidth, moveWidth, weightWidth, loadTrains, loadScale, choiceCount, loadPairs, loadFirst, loadSecond, pairAt, addTrain, addChoice, addPoints, certifyFullWeight, searchBudget, numberIn, endOf, further, countWidth, pairWidth, sizeField, choiceField, pairCountField, liftField, moveField, shiftLift, shiftMove, weightField}
 use Rattle.lines.specs.Verdicts.{fieldRun}
 use Rattle.lines.proofs.Judged.{field-within}
@@ -64,7 +63,7 @@ module _ {l : List ℕ} {b : List ℤ} {q : Request} {room : ℕ} (a : Asks l b 
   even : length l ≡ 2 * bytes l
   even = frame-length frame .even
 
--- ---- 02 add, 04 tighten, 06 search
+-- ---- 02 add, 04 tighten, 06 search, 07 save
 
 pub add-ready : {l : List ℕ} {b : List ℤ} {q : Add} {room : ℕ} → Asks l b (add-of q) room → Adds b q
 add-ready {l} {b} {q} a =
@@ -82,6 +81,9 @@ search-ready {l} {b} {q} a =
     let m = makes a in
     let e : q ≡ record { budget = searchBudget l } = cc in
     (study-of b (a .right) (m .2), rw e (search-fine l (m .1) .budget .1))
+
+pub save-ready : {l : List ℕ} {b : List ℤ} {room : ℕ} → Asks l b save-of room → Study b
+save-ready {l} {b} a = study-of b (a .right) (makes a .2)
 
 -- ---- 05 certify
 
@@ -233,8 +235,3 @@ loaded-study r e f = rw (f, e) (load-study (r .range))
 pub right-length : (b : List ℤ) → wellFormed b ≡ true → length b ≡ blockLength
 unfolding wellFormed
 right-length b e = eqb-true (length b) blockLength (both-true (eqb (length b) blockLength) (isFresh b || holdsStudy b) e .0)
-
--- ---- a front of a local array
-
-pub front-length : {A : Type 0} (n k : ℕ) (x : A) → k ≤ n → length (take k (replicate n x)) ≡ k
-front-length n k x h = length-take-le k (replicate n x) (omega (arith, length-replicate n x))

@@ -1,5 +1,5 @@
 -- Document 01: the answer to a line on a well-formed block, from the line, the block and the room for the reply to the block and the reply.
-use mathlib.Core.Bool.{cond}
+use mathlib.Core.Bool.{Bool, true, false, cond}
 use mathlib.Core.List.{List, []}
 use Prim.Native.Nat.{ℕ}
 use lib.Dec.{ltb}
@@ -12,6 +12,7 @@ use Rattle.refusals.specs.declared.Verdict.the-variants.{Fine, Declined}
 use Rattle.tables.specs.Block.{trains}
 use Rattle.operations.specs.Add.{added, addOutcome}
 use Rattle.operations.specs.Load.{loadedBlock}
+use Rattle.operations.specs.Saved.{savedNumbers}
 use Rattle.shift.specs.Shift.{shifted, shiftOutcome}
 use Rattle.tighten.specs.Tighten.{tightened, tightenOutcome}
 use Rattle.certificates.specs.declared.certify.Certificate.{Certificate}
@@ -21,10 +22,11 @@ use Rattle.frames.specs.Runs.{runOf, signedRunOf}
 use Rattle.lines.specs.declared.kind.Kind.{Kind}
 use Rattle.lines.specs.declared.kind.Kind.the-variants as kind
 use Rattle.lines.specs.declared.request.Request.{Request}
-use Rattle.lines.specs.declared.request.Request.the-variants.{Load, Add, Shift, Tighten, Certify, Search}
+use Rattle.lines.specs.declared.request.Request.the-variants.{Load, Add, Shift, Tighten, Certify, Search, Save}
 use Rattle.lines.specs.declared.request.Line.{Line}
 use Rattle.lines.specs.declared.request.Line.the-variants.{Asked, Refused}
 use Rattle.lines.specs.Layout.{moveWidth, weightWidth}
+use Rattle.lines.specs.Text.{loadDigits}
 use Rattle.decoding.specs.Numbers.{numbersOf}
 use Rattle.reader.specs.Reading.{lineOf}
 use Rattle.search.specs.Answer.{searchAnswer}
@@ -52,6 +54,10 @@ abbrev pub certified : ℕ → Certificate → List ℤ → Answer
 certified fullWeight Unbalanced b = declined b Sums
 certified fullWeight (Balanced c) b = answered b (certifyReply fullWeight c)
 
+-- 07: 'the load line of the block's n, s, sizes, pairs and H'; it changes nothing in the block
+abbrev pub saved : List ℤ → Answer
+saved b = answered b (loadDigits (savedNumbers b))
+
 -- what each request does, with the long fields read from the line
 unfoldable pub requested : Request → List ℕ → List ℤ → Answer
 requested (Load q) l b = answered (loadedBlock (numbersOf l)) (boundReply kind.Load (loadedBlock (numbersOf l)))
@@ -63,11 +69,22 @@ requested (Shift q) l b =
 requested Tighten l b = operated kind.Tighten (tightenOutcome b) b (tightened b)
 requested (Certify q) l b = certified (q .full) (certificate b (weightsOf b (q .full) (runOf l (q .weights .at) weightWidth (q .weights .count)))) b
 requested (Search q) l b = answered b (searchReply (trains b) (searchAnswer b (q .budget)))
+requested Save l b = saved b
 
 -- what a line asks, done, or the refusal
 abbrev pub carriedOut : Line → List ℕ → List ℤ → Answer
 carriedOut (Asked q) l b = requested q l b
 carriedOut (Refused r) l b = declined b r
+
+-- the kinds whose replies are fixed: none is longer than the longest fixed reply, whatever the study
+abbrev pub fixedReply : Kind → Bool
+fixedReply kind.Load = true
+fixedReply kind.Add = true
+fixedReply kind.Shift = true
+fixedReply kind.Tighten = true
+fixedReply kind.Certify = true
+fixedReply kind.Search = true
+fixedReply kind.Save = false
 
 -- 17: a reply that is longer than the room for it 'hands back an empty part and writes nothing', and leaves the block
 abbrev pub fitted : ℕ → List ℤ → Answer → Answer

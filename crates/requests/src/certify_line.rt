@@ -5,17 +5,17 @@ ghost use Rattle.lines.specs.declared.request.Request.the-variants.{Certify as 
 ghost use Rattle.replies.specs.Wrote.{Wrote};
 ghost use Rattle.requests.specs.Answer.{requested};
 ghost use Rattle.requests.specs.Wrote.{Asks};
-use crate::load_line;
 use certificates::certify;
 use certificates::certify::Certificate;
 use frames::runs;
 use lines::request::Certify;
+use lines::request::Load;
 use refusals::Refusal;
 use replies::replies::write_certify;
 use replies::replies::write_refusal;
 
 // The most weights of a certificate.
-const WEIGHTS: usize = load_line::CHOICE_COSTS + load_line::ENTRIES;
+const WEIGHTS: usize = Load::CHOICE_COSTS + Load::ENTRIES;
 
 // Decodes the weights into a slice of their number, and judges the certificate.
 fn certify_with(

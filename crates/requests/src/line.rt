@@ -5,11 +5,12 @@ ghost use Prim.Native.Nat.{_≤_};
 ghost use lib.ListN.{length};
 ghost use Rattle.tables.specs.WellFormed.{isFresh, wellFormed};
 ghost use Rattle.replies.specs.Replies.{longestFixed};
-ghost use Rattle.requests.specs.Answer.{requested, lineAnswer};
+ghost use Rattle.requests.specs.Answer.{requested, fitted, lineAnswer};
 ghost use Rattle.requests.specs.Wrote.{Answers, Asks};
 use crate::add_line;
 use crate::certify_line;
 use crate::load_line;
+use crate::save_line;
 use crate::search_line;
 use crate::shift_line;
 use crate::tighten_line;
@@ -29,10 +30,10 @@ pub fn answer_line(line: &[u8], block: &mut [i64], known: Block, reply: &mut [u8
     }
 }
 
-// Does what a request asks.
+// Does what a request asks, where there is room for its reply.
 fn answer_request(line: &[u8], block: &mut [i64], reply: &mut [u8], q: Request) -> usize
     requires { ⌜ Asks (now line) (now block) q (length (now reply)) ⌝ }
-    ensures { λ r. ⌜ Answers (requested q (now (line .entry)) (now (block .entry))) (now (reply .entry)) (now (block .exit)) (now (reply .exit)) r ⌝ }
+    ensures { λ r. ⌜ Answers (fitted (length (now (reply .entry))) (now (block .entry)) (requested q (now (line .entry)) (now (block .entry)))) (now (reply .entry)) (now (block .exit)) (now (reply .exit)) r ⌝ }
 {
     match q {
         Request::Load(p) => load_line::answer_load(line, block, reply, p),
@@ -41,5 +42,6 @@ fn answer_request(line: &[u8], block: &mut [i64], reply: &mut [u8], q: Request) 
         Request::Tighten => tighten_line::answer_tighten(block, reply),
         Request::Certify(p) => certify_line::answer_certify(line, block, reply, p),
         Request::Search(p) => search_line::answer_search(block, reply, p),
+        Request::Save => save_line::answer_save(block, reply),
     }
 }

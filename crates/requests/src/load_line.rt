@@ -16,11 +16,6 @@ use operations::load;
 use replies::replies::write_bound;
 use tables::block::Block;
 
-// The most choice costs of a load.
-pub const CHOICE_COSTS: usize = Block::TRAINS * Block::CHOICES;
-// The most costs of all pairs.
-pub const ENTRIES: usize = Block::PAIRS * Block::ENTRIES;
-
 // Decodes the numbers of a load into slices of their numbers, and stores them.
 fn load_with(
     line: &[u8],
@@ -60,10 +55,10 @@ pub fn answer_load(line: &[u8], block: &mut [i64], reply: &mut [u8], q: Load) ->
     ensures { λ r. ⌜ Answers (requested (load-of q) (now (line .entry)) (now (block .entry))) (now (reply .entry)) (now (block .exit)) (now (reply .exit)) r ⌝ }
 {
     let mut sizes = [0u64; Block::TRAINS];
-    let mut choices = [0u64; CHOICE_COSTS];
+    let mut choices = [0u64; Load::CHOICE_COSTS];
     let mut firsts = [0u64; Block::PAIRS];
     let mut seconds = [0u64; Block::PAIRS];
-    let mut entries = [0u64; ENTRIES];
+    let mut entries = [0u64; Load::ENTRIES];
     let n = q.sizes.count;
     let count = q.choices.count;
     let m = q.pairs.count;

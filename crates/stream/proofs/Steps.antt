@@ -11,14 +11,15 @@ use lib.IntN.{ℤ}
 use lib.ListN.{length, take, drop, set, getD, length-take, length-append, length-replicate}
 use lib.Seq.{paste, take-all, take-take, take-append-add, take-paste, length-take-le, drop-cons, set-at}
 use borrow.Author.Tests.{lt-ltb, le-ltb, ltb-true, ltb-false, ne-eqb}
+use Rattle.frames.specs.Frames.{maxCharacters}
 use Rattle.replies.specs.Wrote.{Wrote}
 use Rattle.replies.proofs.Writing.{wrote-none, wrote-length}
 use Rattle.requests.specs.Answer.{Answer, answered}
 use Rattle.requests.specs.Wrote.{Answers}
-use Rattle.service.specs.Answer.{minBuffer, answer}
+use Rattle.service.specs.Answer.{answer}
 use Rattle.service.proofs.Answers.{buffer-apart}
-use Rattle.service.proofs.Calls.{reply-short}
-use Rattle.stream.specs.Session.{lineFeed, lineCall}
+use Rattle.service.proofs.Calls.{reply-short, reply-given}
+use Rattle.stream.specs.Session.{lineFeed, replyBuffer, lineCall}
 use Rattle.stream.specs.Parts.{lineLength, keptMost, lengthened, answerLine, Taken, nextLine, lastAnswer}
 use Rattle.stream.specs.Steps.{Steps}
 use Rattle.stream.proofs.Lines.{line-length-most, line-length-taken}
@@ -63,14 +64,22 @@ wrote-more d reply b n c w h =
           (set-at reply (getD d n 0) (drop (suc n) d) c n (sym (w .count)) ∙ sym (append-assoc reply (c ∷ []) (drop (suc n) d)));
     }
 
+buffer-length : length replyBuffer ≡ maxCharacters
+unfolding replyBuffer
+buffer-length = length-replicate {A = ℕ} maxCharacters 0
+
+-- the program never gives 17
+pub line-given : (line : List ℕ) (b : List ℤ) → 0 < length (answer line b (lineCall line .buffer) .reply)
+line-given line b = reply-given line b replyBuffer (omega (arith, buffer-length))
+
 module _ (line : List ℕ) (b : List ℤ) (d : List ℕ) {left : List ℤ} {after : List ℕ} {n : ℕ} (a : Answers (answer line b d) d left after n) where
-  pub line-short : n ≤ minBuffer
+  pub line-short : n ≤ maxCharacters
   line-short = omega (arith, a .reply .count, reply-short line b d)
 
-  pub line-answered : minBuffer < length d → Answers (answerLine line b) d left (set after n lineFeed) (n + 1)
+  pub line-answered : maxCharacters < length d → Answers (answerLine line b) d left (set after n lineFeed) (n + 1)
   unfolding answerLine
   line-answered h =
-      let e = buffer-apart line b (lineCall line .buffer) d (omega (arith, length-replicate {A = ℕ} minBuffer 0)) (omega arith) in
+      let e = buffer-apart line b (lineCall line .buffer) d (omega (arith, buffer-length)) (omega arith) in
       record { block = rw e (a .block); reply = rw e (wrote-more d (answer line b d .reply) after n lineFeed (a .reply) (omega (arith, line-short))) }
 
 -- ---- a step

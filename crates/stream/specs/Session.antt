@@ -7,7 +7,7 @@ use lib.Dec.{eqb}
 use lib.IntN.{ℤ}
 use lib.ListN.{length, replicate}
 use Rattle.tables.specs.WellFormed.{freshBlock}
-use Rattle.service.specs.Answer.{minBuffer}
+use Rattle.frames.specs.Frames.{maxCharacters}
 use Rattle.service.specs.Calls.{Call, Exchange, exchanges}
 
 -- 'line end': a line feed
@@ -35,9 +35,13 @@ linesFrom front (c ∷ rest) = endedBy c front ++ linesFrom (frontAfter c front)
 abbrev pub inputLines : List ℕ → List (List ℕ)
 inputLines input = linesFrom [] input
 
+-- a buffer that holds the longest reply
+unfoldable pub replyBuffer : List ℕ
+replyBuffer = replicate maxCharacters 0
+
 -- the call that a line makes; its buffer counts only by being large enough
 abbrev pub lineCall : List ℕ → Call
-lineCall l = record { line = l; buffer = replicate minBuffer 0 }
+lineCall l = record { line = l; buffer = replyBuffer }
 
 abbrev pub lineCalls : List (List ℕ) → List Call
 lineCalls ls = map lineCall ls

@@ -14,8 +14,8 @@ pub const LINE_FEED: u8 = 10;
 // The most that is kept of a line.
 pub const KEPT: usize = Frame::CHARACTERS + 1;
 
-// A reply and a line feed.
-pub const REPLY: usize = call::MIN_BUFFER + 1;
+// The longest reply and a line feed.
+pub const REPLY: usize = Frame::CHARACTERS + 1;
 
 // What a step came to: how many bytes of the part it took, how many characters of the line are kept, and how many bytes are to be printed.
 pub struct Step {

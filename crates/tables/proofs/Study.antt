@@ -7,7 +7,7 @@ use Prim.Native.Nat.{ℕ, zero, suc, _+_, _*_, _-_, _/_, _<_, _≤_}
 use native.Mathlib.Decide.{ℕ-discrete, decLt}
 use native.Mathlib.Omega.{arith}
 use lib.Dec.{ltb, eqb}
-use lib.IntN.{ℤ, pos}
+use lib.IntN.{ℤ, pos, negsuc}
 use lib.ListN.{length, set, length-set}
 use lib.Seq.{getD-set-same, getD-set-other}
 use borrow.Author.Tests.{lt-ltb, ltb-true, eq-eqb, ne-eqb, eqb-true}
@@ -15,8 +15,8 @@ use Rattle.theory.proofs.Range.{both-true, all-true, all-intro, pass-all}
 use Rattle.units.specs.Units.{scaleMin, scaleMax}
 use Rattle.tables.specs.declared.block.Block.{Block}
 use Rattle.tables.specs.declared.well_formed.NewBlock.the-variants.{Within as within-block, Outside as outside-block}
-use Rattle.tables.specs.Block.{blockLength, maxTrains, maxChoices, maxPairs, maxCost, maxParts, constantPlace, sizePlace, firstPlace, secondPlace, entriesOfPair, loadedChoicesFrom, heldChoicesFrom, loadedEntriesFrom, heldEntriesFrom, loadedChoicePlace, heldChoicePlace, loadedEntryPlace, heldEntryPlace, at, nat, figure, trains, scale, pairs, constant, size, first, second, heldChoice, heldEntry}
-use Rattle.tables.specs.WellFormed.{Limits, fromTo, within, usedIf, choiceUsed, entryUsed, headLimits, limitsAt, placesRight, before, follows, pairRight, pairsRight, isFresh, holdsStudy, wellFormed, newBlock, Study}
+use Rattle.tables.specs.Block.{blockLength, maxTrains, maxChoices, maxPairs, maxCost, maxParts, trainsPlace, constantPlace, sizePlace, firstPlace, secondPlace, entriesOfPair, loadedChoicesFrom, heldChoicesFrom, loadedEntriesFrom, heldEntriesFrom, loadedChoicePlace, heldChoicePlace, loadedEntryPlace, heldEntryPlace, at, nat, figure, trains, scale, pairs, constant, size, first, second, heldChoice, heldEntry}
+use Rattle.tables.specs.WellFormed.{Limits, fromTo, within, usedIf, choiceUsed, entryUsed, headLimits, limitsAt, placesRight, before, follows, pairRight, pairsRight, isZero, isFresh, holdsStudy, wellFormed, newBlock, Study}
 use Rattle.tables.proofs.Limits.{Within, within-figure, within-pos, choice-used, entry-used, limits-head, limits-size, limits-first, limits-second, limits-loaded-choices, limits-held-choices, limits-loaded-entries, limits-held-entries, shape-limits}
 
 -- ---- the test and the facts
@@ -71,6 +71,11 @@ pub study-well-formed : {b : List ℤ} → Study b → wellFormed b ≡ true
 unfolding wellFormed
 study-well-formed {b} s = rw (eq-eqb (length b) blockLength (s .whole), study-holds s) (or-true (isFresh b))
 
+zero-none : (z : ℤ) → isZero z ≡ true → nat z ≡ 0
+unfolding isZero
+zero-none (pos n) e = eqb-true n 0 e
+zero-none (negsuc n) e = refl
+
 -- ---- each used place is a natural number within its limits
 
 module _ {b : List ℤ} (s : Study b) where
@@ -84,6 +89,18 @@ module _ {b : List ℤ} (s : Study b) where
   pub trains-range : (1 ≤ trains b) × (trains b ≤ maxTrains)
   unfolding headLimits
   trains-range = let w = at-limits (fromTo 1 maxTrains) 0 (omega arith) (limits-head b 0 (omega arith)) in (w .low, w .high)
+
+  -- it has a train, so it is not fresh
+  pub study-not-fresh : isFresh b ≡ false
+  unfolding isFresh figure
+  study-not-fresh = go (isFresh b) refl
+    where
+      go : (t : Bool) → isFresh b ≡ t → isFresh b ≡ false
+      go false e = e
+      go true e =
+          let z : isZero (at b trainsPlace) ≡ true = all-true (λ p. isZero (at b p)) (length b) (sym (pass-all (λ p z. isZero z) (pos 0) b) ∙ e) trainsPlace (omega (arith, s .whole)) in
+          let n : trains b ≡ 0 = zero-none (at b trainsPlace) z in
+          absurd (omega (arith, trains-range .0))
 
   pub scale-range : (scaleMin ≤ scale b) × (scale b ≤ scaleMax)
   unfolding headLimits

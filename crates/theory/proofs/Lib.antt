@@ -5,3 +5,4 @@ pub mod Whole
 pub mod Fold
 pub mod Turns
 pub mod Lists
+pub mod Joined

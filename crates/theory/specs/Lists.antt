@@ -1,5 +1,5 @@
 -- Lists given by their entries.
-use mathlib.Core.List.{List, [], _∷_}
+use mathlib.Core.List.{List, [], _∷_, _++_}
 use Prim.Native.Nat.{ℕ, zero, suc, _+_}
 use lib.ListN.{getD}
 
@@ -15,3 +15,8 @@ listOf n f = listFrom 0 n f
 -- entry i of a list of numbers
 abbrev pub nth : List ℕ → ℕ → ℕ
 nth l i = getD l i 0
+
+-- n lists, one after the other
+unfoldable pub joined : ℕ → (ℕ → List ℕ) → List ℕ
+joined zero f = []
+joined (suc n) f = joined n f ++ f n

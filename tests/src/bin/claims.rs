@@ -1,4 +1,5 @@
-//! `claims [--reference] SEED SESSIONS`: checks document 01's claims on sessions of small studies.
+//! `claims [--reference] SEED SESSIONS`: checks document 01's claims on sessions of small studies, and what is said of
+//! saves on as many sessions over studies of every size and blocks that no line makes.
 
 use reference::claims::{check_session, Tally};
 use reference::random::Random;
@@ -23,7 +24,9 @@ fn run() -> Result<(), Box<dyn Error>> {
     let mut seeds = Random::new(seed.parse()?);
     let mut tally = Tally::default();
     for _ in 0..sessions.parse()? {
-        check_session(service, seeds.number(), CALLS, &mut tally)?;
+        let seed = seeds.number();
+        check_session(service, seed, CALLS, &mut tally)?;
+        tally.saves.check_session(service, seed, CALLS)?;
     }
     println!("{tally:?}");
     Ok(())

@@ -121,7 +121,7 @@ fn session_input(seed: u64) -> Vec<u8> {
     let mut input = Vec::new();
     for _ in 0..CALLS_PER_SESSION {
         let call = session.call(&block);
-        reference::answer(&call.line, &mut block, &mut [0; reference::LEAST_BUFFER]);
+        reference::answer(&call.line, &mut block, &mut [0; reference::LONGEST_REPLY]);
         input.extend_from_slice(&call.line);
         input.push(b'\n');
     }

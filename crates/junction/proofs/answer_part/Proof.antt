@@ -5,7 +5,7 @@ use Prim.Native.Nat.{ℕ, _-_}
 use native.Mathlib.Omega.{arith}
 use lib.ListN.{take}
 use Rattle.stream.specs.Parts.{overPart}
-use Rattle.stream.proofs.Steps.{written-fits, written-length}
+use Rattle.stream.proofs.Steps.{written-fits}
 use Rattle.stream.proofs.Over.{step-prints, InPart, in-part-first, used-more, used-inside, in-part-next, in-part-last}
 use Rattle.junction.proofs.answer_part.Statement.{statement}
 use Rattle.junction.proofs.answer_part.Tie as tie
@@ -39,16 +39,11 @@ add-at c =
     let a = l .before .before .args in
     record { fits = omega (arith, used-inside (a .bytes .now) (a .n) (l .before .before .pre .0) (l .loop .inv) (search needs) (c .before .next-line .ensures)) }
 
-array-share-prefix-reply : tie.Need-array-share-prefix-reply Inv-loop μ-loop
-array-share-prefix-reply c = omega (arith, written-fits (c .before .before .next-line .ensures .printed))
-
-slice-aggregate-print-step : tie.Need-slice-aggregate-print-step Inv-loop μ-loop
-slice-aggregate-print-step c = omega (arith, written-length (c .before .before .before .next-line .ensures .printed))
-
 print-step-requires : tie.Need-print-step-requires Inv-loop μ-loop
 print-step-requires c κs =
-    let l = c .before .before .before .before .before .before .before .before .before in
-    step-prints (l .loop .inv .after) _ (c .before .before .before .next-line .ensures)
+    let w = c .before .before .before .before in
+    let l = w .before .before .before .before .before .before in
+    (omega (arith, written-fits (w .next-line .ensures .printed)), step-prints (l .loop .inv .after) _ (w .next-line .ensures))
 
 returns : tie.Need-returns Inv-loop μ-loop
 returns c =
@@ -56,16 +51,16 @@ returns c =
 
 loop-less : tie.Need-loop-less Inv-loop μ-loop
 loop-less c =
-    let l = c .before .before .before .before .before .before .before .before .before .before .before in
+    let l = c .before .before .before .before .before .before .before .before .before .before .before .before in
     let a = l .before .before .args in
-    let t = c .before .before .before .before .before .next-line .ensures in
+    let t = c .before .before .before .before .before .before .next-line .ensures in
     omega (arith, used-more (a .bytes .now) (a .n) (l .before .before .pre .0) (l .loop .inv) (search needs) t, used-inside (a .bytes .now) (a .n) (l .before .before .pre .0) (l .loop .inv) (search needs) t)
 
 loop-again : tie.Need-loop-again Inv-loop μ-loop
 loop-again c =
-    let l = c .before .before .before .before .before .before .before .before .before .before .before in
+    let l = c .before .before .before .before .before .before .before .before .before .before .before .before in
     let a = l .before .before .args in
-    let t = c .before .before .before .before .before .next-line .ensures in
+    let t = c .before .before .before .before .before .before .next-line .ensures in
     in-part-next (a .bytes .now) (a .n) (l .before .before .pre .0) (l .loop .inv) (search needs) t
 
 returns-2 : tie.Need-returns-2 Inv-loop μ-loop
@@ -86,8 +81,6 @@ answer-part-spec =
     part-rest-end
     next-line-requires
     add-at
-    array-share-prefix-reply
-    slice-aggregate-print-step
     print-step-requires
     returns
     loop-less

@@ -28,7 +28,7 @@ answer-part-requires c κs = search needs
 
 returns-3 : tie.Need-returns-3
 returns-3 c =
-    let m = c .before .before .before .before in
+    let m = c .before .before .before .before .before in
     let k = rw (toZ-ofZ (m .before .before .before .before .fits .got)) at (m .count .ensures .1) in
     (λ e. rw (← k) (c .answer-part .ensures e), λ e. absurd (m .before .before .if2 .left (ap (ofZ w64) e)))
 

@@ -7,10 +7,10 @@ use Rattle.junction.proofs.main.Statement.{statement}
 use Rattle.junction.proofs.main.Tie as tie
 
 abbrev Inv-loop : tie.InvT-loop
-Inv-loop bytes₀ line₀ block₀ length₀ reads₀ bytes line block length reads = AfterParts line block length
+Inv-loop bytes₀ line₀ block₀ reply₀ length₀ reads₀ bytes line block reply length reads = AfterParts line block length
 
 abbrev μ-loop : tie.MeasureT-loop
-μ-loop bytes₀ line₀ block₀ length₀ reads₀ bytes line block length reads = reads
+μ-loop bytes₀ line₀ block₀ reply₀ length₀ reads₀ bytes line block reply length reads = reads
 
 loop-holds : tie.Need-loop-holds Inv-loop μ-loop
 loop-holds c = after-none _
@@ -32,7 +32,7 @@ loop-less c = search needs
 
 loop-again : tie.Need-loop-again Inv-loop μ-loop
 loop-again c =
-    let l = c .before .before .before .before .before .before .before .before .before in
+    let l = c .before .before .before .before .before .before .before .before .before .before in
     after-part (l .loop .inv) _ (c .before .before .answer-read .ensures .0 (not-false _ (c .if1 .left)))
 
 returns-2 : tie.Need-returns-2 Inv-loop μ-loop

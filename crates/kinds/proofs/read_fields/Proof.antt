@@ -39,6 +39,12 @@ enum-told-6 c = search needs
 read-search-requires : tie.Need-read-search-requires
 read-search-requires c κs = search needs
 
+enum-told-7 : tie.Need-enum-told-7
+enum-told-7 c = search needs
+
+read-bare-requires-2 : tie.Need-read-bare-requires-2
+read-bare-requires-2 c κs = search needs
+
 returns : tie.Need-returns
 returns c = rw (c .before .enum-told .given .1) (c .read-load .ensures)
 
@@ -57,6 +63,9 @@ returns-5 c = rw (c .before .enum-told5 .given .1) (c .read-certify .ensures)
 returns-6 : tie.Need-returns-6
 returns-6 c = rw (c .before .enum-told6 .given .1) (c .read-search .ensures)
 
+returns-7 : tie.Need-returns-7
+returns-7 c = rw (c .before .enum-told7 .given .1) (c .read-bare2 .ensures)
+
 pub read-fields-spec : {M : Type 1} → statement M
 read-fields-spec =
     tie.close
@@ -73,9 +82,12 @@ read-fields-spec =
     read-certify-requires
     enum-told-6
     read-search-requires
+    enum-told-7
+    read-bare-requires-2
     returns
     returns-2
     returns-3
     returns-4
     returns-5
-    returns-6)
+    returns-6
+    returns-7)

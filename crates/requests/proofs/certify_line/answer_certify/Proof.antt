@@ -2,7 +2,8 @@
 use borrow.Author.Needs.{needs}
 use mathlib.Core.Path.{sym}
 use native.Mathlib.Omega.{arith}
-use Rattle.requests.proofs.Ready.{certify-ready, front-length}
+use Rattle.theory.proofs.Lists.{front-length}
+use Rattle.requests.proofs.Ready.{certify-ready}
 use Rattle.requests.proofs.certify_line.answer_certify.Statement.{statement}
 use Rattle.requests.proofs.certify_line.answer_certify.Tie as tie
 

@@ -1,4 +1,4 @@
--- What the reader answers is the line's own case of the definition, and its reply is not too long for the room.
+-- What the reader answers is the line's own case of the definition.
 use borrow.Author.Needs.{needs}
 use mathlib.Core.Path.{refl, sym, _∙_}
 use lib.ListN.{length}
@@ -56,7 +56,7 @@ returns-2 c =
     let e = w .before .before .before .before in
     let r = e .before .before in
     let s = start r in
-    rw (asked-line (s .args .line .now) (s .args .block .now) (length (s .args .reply .now)) (s .pre .2) (s .pre .0) (e .q .given .0 .0) (sym (r .read .ensures) ∙ e .q .given .1))
+    rw (asked-line (s .args .line .now) (s .args .block .now) (length (s .args .reply .now)) (e .q .given .0 .0) (sym (r .read .ensures) ∙ e .q .given .1))
     (w .answer-request .ensures)
 
 pub answer-line-spec : {M : Type 1} → statement M

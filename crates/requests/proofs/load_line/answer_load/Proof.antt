@@ -2,7 +2,8 @@
 use borrow.Author.Needs.{needs}
 use mathlib.Core.Path.{sym, _∙_}
 use native.Mathlib.Omega.{arith}
-use Rattle.requests.proofs.Ready.{load-ready, front-length}
+use Rattle.theory.proofs.Lists.{front-length}
+use Rattle.requests.proofs.Ready.{load-ready}
 use Rattle.requests.proofs.load_line.answer_load.Statement.{statement}
 use Rattle.requests.proofs.load_line.answer_load.Tie as tie
 

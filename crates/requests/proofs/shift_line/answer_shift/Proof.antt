@@ -3,7 +3,8 @@ use borrow.Author.Needs.{needs}
 use mathlib.Core.Path.{sym}
 use native.Mathlib.Omega.{arith}
 use lib.IntN.{pos}
-use Rattle.requests.proofs.Ready.{shift-ready, front-length}
+use Rattle.theory.proofs.Lists.{front-length}
+use Rattle.requests.proofs.Ready.{shift-ready}
 use Rattle.requests.proofs.shift_line.answer_shift.Statement.{statement}
 use Rattle.requests.proofs.shift_line.answer_shift.Tie as tie
 

@@ -1,0 +1,2 @@
+-- The laws of the crate, which callers cite: one file for each idea.
+pub mod Saved

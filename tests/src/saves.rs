@@ -1,0 +1,96 @@
+//! Change 1, 'Saving a study', checked from the outside: by saves and loads alone.
+
+use crate::calls::{Call, Setting};
+use crate::claims::demand;
+use crate::generator::{Reach, Session};
+use crate::lines::LONGEST_LINE;
+use crate::model::{self, BLOCK_LENGTH};
+use crate::{Service, LEAST_BUFFER, LONGEST_REPLY};
+use std::ops::Range;
+
+/// How often saves were put to the test.
+#[derive(Default, Debug)]
+pub struct Saves {
+    /// Saved lines that were loaded again.
+    pub loaded: usize,
+    /// Of these, saves of blocks whose T isn't s × H or whose c0 isn't 0.
+    pub rewritten: usize,
+    /// Loads that a save gave back.
+    pub given_back: usize,
+}
+
+/// Places of n, s and m; of sizes, pairs and H of choices; of H of pairs.
+const LOADED: [Range<usize>; 3] = [0..3, 4..316, 508..3_580];
+/// From a place of H to that of T, of choices and of pairs.
+const HELD: [(Range<usize>, usize); 2] = [(124..316, 316 - 124), (508..3_580, 3_580 - 508)];
+
+/// T = s × H and c0 = 0.
+fn as_loaded(block: &[i64]) -> bool {
+    let held = |(places, to_held): &(Range<usize>, usize)| {
+        places.clone().all(|place| block[place + to_held] == block[1] * block[place])
+    };
+    block[3] == 0 && HELD.iter().all(held)
+}
+
+/// The reply to a line in a buffer of this length, on the block.
+fn reply(service: Service, line: &[u8], block: &mut [i64], capacity: usize) -> Vec<u8> {
+    let call = Call { capacity, setting: Setting::AsLeft, line: line.to_vec() };
+    call.run(service, block).reply().to_vec()
+}
+
+impl Saves {
+    /// "Loading that line gives the same n, s, sizes, pairs and H", into a fresh block and into the one
+    /// that was saved; "T becomes s × H, c0 becomes 0".
+    pub fn check_saved(&mut self, service: Service, block: &[i64], saved: &[u8]) -> Result<(), String> {
+        self.loaded += 1;
+        self.rewritten += usize::from(!as_loaded(block));
+        demand(saved.len() <= LONGEST_LINE, "a saved line is too long")?;
+        for before in [&[0; BLOCK_LENGTH], block] {
+            let mut after = before.to_vec();
+            let loaded = reply(service, saved, &mut after, LEAST_BUFFER);
+            demand(loaded.starts_with(b"81"), "a saved line isn't loaded")?;
+            let same = LOADED.into_iter().all(|places| after[places.clone()] == block[places]);
+            demand(same, "a saved line loads other numbers")?;
+            demand(as_loaded(&after), "a saved line isn't loaded as it must be")?;
+        }
+        Ok(())
+    }
+
+    /// "Saving straight after any accepted line of kind 01 gives back that line", into every buffer that
+    /// holds it; "where it doesn't fit, the answer is 17". A save changes nothing.
+    pub fn check_load(&mut self, service: Service, block: &[i64], load: &[u8]) -> Result<(), String> {
+        self.given_back += 1;
+        let least = load.len().max(LEAST_BUFFER);
+        for (capacity, expected) in [(least, load), (least - 1, &[]), (LONGEST_REPLY, load)] {
+            let mut after = block.to_vec();
+            demand(reply(service, b"07", &mut after, capacity) == expected, "a save isn't the line loaded")?;
+            demand(after == block, "a save changed the block")?;
+        }
+        Ok(())
+    }
+
+    /// One session over studies of every size and blocks that no line makes: each load that is accepted,
+    /// and a save behind each call that leaves a study.
+    pub fn check_session(&mut self, service: Service, seed: u64, calls: usize) -> Result<(), String> {
+        let mut session = Session::new(seed, Reach::Blocks);
+        let mut block = vec![0; BLOCK_LENGTH];
+        for number in 0..calls {
+            let call = session.call(&block);
+            let outcome = call.run(service, &mut block);
+            let mut check = || {
+                if outcome.reply().starts_with(b"81") {
+                    self.check_load(service, &outcome.block, &call.line)?;
+                }
+                if !matches!(model::decode(&block), Ok(Some(_))) {
+                    return Ok(());
+                }
+                let mut after = block.clone();
+                let saved = reply(service, b"07", &mut after, LONGEST_REPLY);
+                demand(after == block, "a save changed the block")?;
+                self.check_saved(service, &block, &saved)
+            };
+            check().map_err(|claim: String| format!("session {seed} of saves, call {number}: {claim}"))?;
+        }
+        Ok(())
+    }
+}
