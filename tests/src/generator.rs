@@ -21,6 +21,13 @@ pub enum Reach {
     Blocks,
 }
 
+/// Every byte as the second and as the first character of a line of two, the other one being 0. On a fresh block all are
+/// refused and leave it.
+pub fn every_byte() -> impl Iterator<Item = Call> {
+    let lines = (0..=u8::MAX).flat_map(|byte| [[b'0', byte], [byte, b'0']]);
+    lines.map(|line| Call { capacity: LEAST_BUFFER, setting: Setting::AsLeft, line: line.to_vec() })
+}
+
 /// A line's fields, the kind among them, with their widths in bytes.
 pub type Fields = Vec<(usize, i64)>;
 

@@ -1,6 +1,7 @@
-//! The reference against document 01's own examples, and those of a save.
+//! The reference against document 01's own examples, those of a save, and every byte as a digit.
 
 use reference::calls::{digest, Call, Setting, FILLING};
+use reference::generator::every_byte;
 use reference::lines::{digits, LONGEST_LINE};
 use reference::model::BLOCK_LENGTH;
 use reference::{LEAST_BUFFER, LONGEST_REPLY};
@@ -19,6 +20,9 @@ const REPLIES: &str = "\
 85010000000000000002000001
 8601000000040000000000020001
 ";
+
+/// The sixteen characters of a line.
+const DIGITS: &str = "0123456789ABCDEF";
 
 /// The reply to a load.
 const ZERO: &str = "81000000000000000000000000";
@@ -167,6 +171,34 @@ fn the_longest_line_is_saved() {
     assert_eq!(load.len(), LONGEST_LINE);
     assert_eq!(replies(&[&load, "07"]), [ZERO, &load]);
     assert_eq!(last_in(LONGEST_REPLY - 1, &[&load, "07"]), "");
+}
+
+/// Change 2: a character is a digit where it is one of the sixteen, for every byte, as either character of a line.
+#[test]
+fn sixteen_bytes_are_digits() {
+    let mut block = vec![0; BLOCK_LENGTH];
+    for call in every_byte() {
+        let other = call.line.iter().any(|&byte| !DIGITS.contains(char::from(byte)));
+        let outcome = call.run(reference::answer, &mut block);
+        assert_eq!(outcome.reply() == b"FF01", other, "{:?}", call.line);
+    }
+    for line in ["00", "19", "1A", "1F", "F0", "FF"] {
+        assert_eq!(last(&[line]), "FF03");
+    }
+    assert_eq!(last(&["01"]), "FF05");
+    assert_eq!(last(&["07"]), "FF04");
+    for line in ["0a", "0f", "ff", "0/", "0:", "0@", "0G", "0`", "0g"] {
+        assert_eq!(last(&[line]), "FF01");
+    }
+}
+
+/// Each digit, read as a cost's last one and written again.
+#[test]
+fn every_digit_is_saved() {
+    for digit in DIGITS.chars() {
+        let load = format!("010100010100000{digit}00");
+        assert_eq!(replies(&[&load, "07"]), [ZERO, &load]);
+    }
 }
 
 /// Points that the document leaves short.

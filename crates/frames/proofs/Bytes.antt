@@ -2,45 +2,20 @@
 use mathlib.Core.Path.{_≡_, refl, sym, ap, _∙_}
 use mathlib.Core.Bool.{Bool, true, false, cond, _&&_, not}
 use mathlib.Core.List.{List}
-use mathlib.Core.Logic.{_⊎_, inl, inr}
-use Prim.Native.Nat.{ℕ, _+_, _*_, _-_, _/_, _%_, _<_, _≤_, max}
+use Prim.Native.Nat.{ℕ, _+_, _*_, _/_, _%_, _<_, _≤_}
 use native.Mathlib.Omega.{arith}
-use lib.Dec.{leb, ltb, eqb}
+use lib.Dec.{ltb, eqb}
 use lib.ListN.{length, getD}
-use borrow.Author.Tests.{lt-ltb, ltb-true, ltb-false, leb-true, le-leb, lt-leb, ne-eqb, eqb-true, eqb-false, not-true}
+use borrow.Author.Tests.{lt-ltb, ltb-true, ltb-false, ne-eqb, eqb-true, eqb-false, not-true}
 use Rattle.theory.specs.Range.{all}
 use Rattle.theory.proofs.Range.{both-true, bool-ext, all-true, pass-all}
 use Rattle.frames.specs.Digits.{noDigit, digit, byteAt, bytes}
 use Rattle.frames.specs.Frames.{maxCharacters, isDigit, allDigits, framed, newFrame, Framed}
 use Rattle.frames.specs.declared.frame.Frame.{Frame}
 use Rattle.frames.specs.declared.frame.NewFrame.the-variants.{Within, Long, Broken}
+use Rattle.frames.proofs.Ascii.{digit-most}
 
--- the two ranges of characters that are digits, and the others
-pub digit-low : (c : ℕ) → 48 ≤ c → c ≤ 57 → digit c ≡ c - 48
-unfolding digit
-digit-low c h q = rw (le-leb 48 c h, le-leb c 57 q)
-
-pub digit-high : (c : ℕ) → 65 ≤ c → c ≤ 70 → digit c ≡ c - 55
-unfolding digit
-digit-high c h q = rw (le-leb 48 c (omega arith), lt-leb c 57 (omega arith), le-leb 65 c h, le-leb c 70 q)
-
-pub digit-none : (c : ℕ) → (c < 48) ⊎ ((57 < c) × (c < 65)) ⊎ (70 < c) → digit c ≡ noDigit
-unfolding digit
-digit-none c (inl h) = rw (lt-leb 48 c h, lt-leb 65 c (omega arith))
-digit-none c (inr (inl h)) = rw (le-leb 48 c (omega arith), lt-leb c 57 (h .0), lt-leb 65 c (h .1))
-digit-none c (inr (inr h)) = rw (le-leb 48 c (omega arith), lt-leb c 57 (omega arith), le-leb 65 c (omega arith), lt-leb c 70 h)
-
--- a value is at most `noDigit`
-pub digit-most : (c : ℕ) → digit c ≤ noDigit
-unfolding digit
-digit-most c = go (leb 48 c && leb c 57) (leb 65 c && leb c 70) refl refl
-  where
-    go : (t u : Bool) → leb 48 c && leb c 57 ≡ t → leb 65 c && leb c 70 ≡ u → cond t (c - 48) (cond u (c - 55) noDigit) ≤ noDigit
-    go true u p q = omega (arith, leb-true c 57 (both-true (leb 48 c) (leb c 57) p .1))
-    go false true p q = omega (arith, leb-true c 70 (both-true (leb 65 c) (leb c 70) q .1))
-    go false false p q = omega arith
-
--- so a byte is at most 272, whatever the characters are
+-- a byte is at most 272, whatever the characters are
 pub byte-most : (l : List ℕ) (i : ℕ) → byteAt l i ≤ 272
 unfolding byteAt
 byte-most l i = omega (arith, digit-most (getD l (2 * i) 0), digit-most (getD l (2 * i + 1) 0))
@@ -51,13 +26,6 @@ digit-below c =
     bool-ext (ltb (digit c) noDigit) (isDigit c)
     (λ e. let h = ltb-true (digit c) noDigit e in rw (ne-eqb (digit c) noDigit (omega arith)))
     (λ e. let h = eqb-false (digit c) noDigit (not-true (eqb (digit c) noDigit) e) in lt-ltb (digit c) noDigit (omega (arith, digit-most c)))
-
--- the higher of two numbers is below a third where both are
-pub both-below : (a b n : ℕ) → ltb (max a b) n ≡ ltb a n && ltb b n
-both-below a b n =
-    bool-ext (ltb (max a b) n) (ltb a n && ltb b n)
-    (λ e. let h = ltb-true (max a b) n e in rw (lt-ltb a n (omega arith), lt-ltb b n (omega arith)))
-    (λ e. let h = both-true (ltb a n) (ltb b n) e in lt-ltb (max a b) n (omega (arith, ltb-true a n (h .0), ltb-true b n (h .1))))
 
 -- ---- lines of digits
 

@@ -1,4 +1,5 @@
 -- The laws of the crate, which callers cite: one file for each idea.
+pub mod Ascii
 pub mod Bytes
 pub mod Widths
 pub mod RoundTrip

@@ -15,7 +15,8 @@ use Rattle.theory.proofs.Range.{all-true, all-intro}
 use Rattle.frames.specs.Digits.{noDigit, digit, digitOf, byteAt, byteDigits}
 use Rattle.frames.specs.Fields.{field, fieldDigits}
 use Rattle.frames.specs.Frames.{isDigit, allDigits}
-use Rattle.frames.proofs.Bytes.{digit-low, digit-high, all-digits}
+use Rattle.frames.proofs.Ascii.{digit-low, digit-high}
+use Rattle.frames.proofs.Bytes.{all-digits}
 use Rattle.frames.proofs.Widths.{power-more}
 
 -- ---- digits

@@ -11,7 +11,8 @@ use lib.Seq.{drop-cons}
 use borrow.Author.Tests.{le-leb, lt-leb}
 use Rattle.frames.specs.Digits.{noDigit, digit, digitOf, byteAt, bytes, byteDigits}
 use Rattle.frames.specs.Fields.{field, fieldDigits}
-use Rattle.frames.proofs.Bytes.{digit-low, digit-high, digit-none, Whole, byte-below}
+use Rattle.frames.proofs.Ascii.{digit-low, digit-high, digit-none}
+use Rattle.frames.proofs.Bytes.{Whole, byte-below}
 use Rattle.frames.specs.Runs.{runDigits}
 
 -- a digit character is the digit of its value

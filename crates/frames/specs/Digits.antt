@@ -1,17 +1,29 @@
 -- Document 01, 'Lines': 'digits 0-9 A-F', two to a byte.
-use mathlib.Core.Bool.{cond, _&&_}
-use mathlib.Core.List.{List, _∷_}
-use Prim.Native.Nat.{ℕ, _+_, _*_, _-_, _/_, _%_}
-use lib.Dec.{leb}
+use mathlib.Core.Bool.{cond}
+use mathlib.Core.List.{List, [], _∷_}
+use Prim.Native.Nat.{ℕ, _+_, _*_, _/_, _%_}
+use lib.Dec.{leb, eqb}
 use lib.ListN.{length, getD}
+use Rattle.frames.specs.Text.{codes}
 
--- one more than the highest value of a digit: no value
+-- 'digits 0-9 A-F': the sixteen characters, in the order of their values
+unfoldable pub digits : List ℕ
+unfolding codes
+digits = codes "0123456789ABCDEF"
+
+-- how many characters of a list stand before c; all of them, where c is none
+unfoldable pub placeOf : ℕ → List ℕ → ℕ
+placeOf c [] = 0
+placeOf c (d ∷ l) = cond (eqb c d) 0 (1 + placeOf c l)
+
+-- no value: as many as there are digits
 abbrev pub noDigit : ℕ
 noDigit = 16
 
--- the value of a digit: '0-9 A-F'; `noDigit` for every other character
+-- the value of a digit: its place among the sixteen, counted from 0; `noDigit` for every other character
 unfoldable pub digit : ℕ → ℕ
-digit c = cond (leb 48 c && leb c 57) (c - 48) (cond (leb 65 c && leb c 70) (c - 55) noDigit)
+unfolding digits placeOf
+digit c = placeOf c digits
 
 -- the digit of a value
 unfoldable pub digitOf : ℕ → ℕ

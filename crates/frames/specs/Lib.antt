@@ -1,4 +1,4 @@
--- The rule, runs of fields as lists, and lines as examples write them. Nothing stands here besides.
+-- The rule, runs of fields as lists, and quoted text. Nothing stands here besides.
 pub mod Digits
 pub mod Fields
 pub mod Frames

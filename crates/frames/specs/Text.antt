@@ -1,4 +1,4 @@
--- Lines as examples write them.
+-- Quoted text as characters: the list of the digits, and lines as examples write them.
 use mathlib.Core.List.{List, [], _∷_}
 use Prim.Native.Char.{code}
 use Prim.Native.Nat.{ℕ}

@@ -3,18 +3,44 @@ ghost use mathlib.Core.Path.{_≡_};
 ghost use Prim.Native.Nat.{_+_, _*_, _<_};
 ghost use lib.ListN.{length};
 ghost use Rattle.frames.specs.Digits.{noDigit, digit, digitOf, byteAt};
+ghost use Rattle.frames.specs.Frames.{isDigit};
 
 // What `value` answers where a character is no digit.
-pub const NO_DIGIT: u8 = 16;
+const NO_DIGIT: u8 = 16;
 
 // The value of a digit, NO_DIGIT where the character is none.
 pub fn value(c: u8) -> u8
     ensures { λ r. ⌜ r ≡ digit c ⌝ }
 {
     match c {
-        48..=57 => c - 48,
-        65..=70 => c - 55,
+        b'0' => 0,
+        b'1' => 1,
+        b'2' => 2,
+        b'3' => 3,
+        b'4' => 4,
+        b'5' => 5,
+        b'6' => 6,
+        b'7' => 7,
+        b'8' => 8,
+        b'9' => 9,
+        b'A' => 10,
+        b'B' => 11,
+        b'C' => 12,
+        b'D' => 13,
+        b'E' => 14,
+        b'F' => 15,
         _ => NO_DIGIT,
+    }
+}
+
+// Whether a character is a digit: by its two ranges in ASCII, so that several characters can be asked at once.
+pub fn is_digit(c: u8) -> bool
+    ensures { λ r. ⌜ r ≡ isDigit c ⌝ }
+{
+    match c {
+        b'0'..=b'9' => true,
+        b'A'..=b'F' => true,
+        _ => false,
     }
 }
 

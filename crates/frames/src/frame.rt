@@ -50,18 +50,15 @@ impl Frame {
     }
 }
 
-// Whether every character is a digit: the highest value is that of one. No character ends the loop, so that several can be read at once.
+// Whether every character is a digit. No character ends the loop, so that several can be asked at once.
 fn all_digits(line: &[u8]) -> bool
     ensures { λ r. ⌜ r ≡ allDigits (now (line .entry)) ⌝ }
 {
-    let mut highest = 0;
+    let mut so_far = true;
     let mut i = 0;
     while i < line.len() {
-        let v = digits::value(line[i]);
-        if highest < v {
-            highest = v;
-        }
+        so_far = so_far & digits::is_digit(line[i]);
         i += 1;
     }
-    highest < digits::NO_DIGIT
+    so_far
 }

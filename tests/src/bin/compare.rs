@@ -1,11 +1,12 @@
-//! Compares the product with the reference: `compare SEED COUNT` calls of the static library, or
+//! Compares the product with the reference: `compare SEED COUNT` calls of the static library beside those of every byte, or
 //! `compare --program PATH SEED SESSIONS` sessions of the program.
 
 use reference::calls::{Call, Outcome};
-use reference::generator::{Reach, Session};
+use reference::generator::{self, Reach, Session};
 use reference::model::BLOCK_LENGTH;
 use reference::product;
 use reference::random::Random;
+use reference::Service;
 use std::env;
 use std::error::Error;
 use std::fs;
@@ -32,30 +33,51 @@ fn run() -> Result<(), Box<dyn Error>> {
     }
 }
 
-/// Reply length, whole buffer and whole block after each call.
+/// The calls of every byte, then those of the seed.
 fn library(seed: u64, count: usize) -> Result<(), Box<dyn Error>> {
     let service = product::service()?;
+    let mut both = Both::new(service);
+    generator::every_byte().try_for_each(|call| both.run(call))?;
+    let fixed = both.history.len();
     let mut seeds = Random::new(seed);
     let mut done = 0;
     while done < count {
         let mut session = Session::new(seeds.number(), Reach::Blocks);
-        let mut ours = vec![0; BLOCK_LENGTH];
-        let mut theirs = ours.clone();
-        let mut history = Vec::new();
+        let mut both = Both::new(service);
         for _ in 0..CALLS_PER_SESSION.min(count - done) {
-            let call = session.call(&ours);
-            let expected = call.run(reference::answer, &mut ours);
-            let outcome = call.run(service, &mut theirs);
-            history.push(call);
+            both.run(session.call(&both.reference))?;
             done += 1;
-            if outcome != expected {
-                let difference = difference(&history, &expected, &outcome)?;
-                return Err(format!("call {done} differs\n{difference}").into());
-            }
         }
     }
-    println!("{count} calls, no difference");
+    println!("{fixed} calls of every byte and {count} of the seed, no difference");
     Ok(())
+}
+
+/// A session of both, each with its block.
+struct Both {
+    service: Service,
+    reference: Vec<i64>,
+    product: Vec<i64>,
+    history: Vec<Call>,
+}
+
+impl Both {
+    fn new(service: Service) -> Self {
+        let [reference, product] = [(); 2].map(|()| vec![0; BLOCK_LENGTH]);
+        Self { service, reference, product, history: Vec::new() }
+    }
+
+    /// Compares reply length, whole buffer and whole block after a call.
+    fn run(&mut self, call: Call) -> Result<(), Box<dyn Error>> {
+        let expected = call.run(reference::answer, &mut self.reference);
+        let outcome = call.run(self.service, &mut self.product);
+        self.history.push(call);
+        if outcome == expected {
+            return Ok(());
+        }
+        let difference = difference(&self.history, &expected, &outcome)?;
+        Err(format!("call {} of a session differs\n{difference}", self.history.len()).into())
+    }
 }
 
 /// Says what differs, and leaves the session's calls as text for the program `calls`.
