@@ -13,6 +13,8 @@ use crate::Service;
 pub struct Tally {
     pub calls: usize,
     pub bounds: usize,
+    /// Accepted shifts whose constant is below the one before.
+    pub falls: usize,
     pub certificates: usize,
     pub reached: usize,
     /// Rivals whose constant is above the block's c0, and those whose constant is the ceiling.
@@ -229,6 +231,7 @@ pub fn check_session(service: Service, seed: u64, calls: usize, tally: &mut Tall
         let outcome = call.run(service, &mut block);
         let reply = outcome.reply();
         tally.calls += 1;
+        tally.falls += usize::from(reply.starts_with(b"83") && block[3] < before[3]);
         feed(&mut ledger, &call.line, reply);
         let mut check = || -> Result<(), String> {
             demand(accepted(reply) || block == before, "a refused line changed the block")?;

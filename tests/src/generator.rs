@@ -1,7 +1,7 @@
 //! Sessions of calls from a seed: every kind, every refusal, boundaries and damage.
 
 use crate::calls::{Call, Setting};
-use crate::lines::{self, LONGEST_LINE};
+use crate::lines::{self, LONGEST_LINE, MOVES};
 use crate::model::{self, Costs, Pair, Study, BLOCK_LENGTH, TOP};
 use crate::operations::{self, Certificate, Shift};
 use crate::random::Random;
@@ -233,14 +233,30 @@ impl Session {
 
     fn shift(&mut self, study: &Study) -> Fields {
         let mut rewriting = Rewriting::of(study);
-        if self.random.chance(30) {
-            let sweeps = self.random.pick(&[1, 1, 2, 10]);
-            (0..sweeps).for_each(|_| rewriting.sweep());
-        } else {
-            let steps = self.random.below(2 + 4 * study.trains.len());
-            (0..steps).for_each(|_| rewriting.step(&mut self.random));
+        let random = &mut self.random;
+        match random.below(10) {
+            0..=2 => (0..random.pick(&[1, 1, 2, 10])).for_each(|_| rewriting.sweep()),
+            3 | 4 => (0..random.between(1, 3)).for_each(|_| rewriting.give_back(random)),
+            _ => (0..random.below(2 + 4 * study.trains.len())).for_each(|_| rewriting.step(random)),
+        }
+        if self.random.chance(20) {
+            self.strain(&mut rewriting);
         }
         shift_fields(&rewriting.shift)
+    }
+
+    /// Gives back one part more than the constant has, or brings a lift to a limit or one beyond it while the study stays as
+    /// it is.
+    fn strain(&mut self, rewriting: &mut Rewriting) {
+        let random = &mut self.random;
+        let Study { trains, pairs, constant, .. } = &rewriting.study;
+        if pairs.is_empty() || random.chance(30) {
+            return rewriting.lift(random.below(trains.len()), -constant - 1);
+        }
+        let (number, side) = (random.below(pairs.len()), random.below(2));
+        let lift = rewriting.shift.lifts[pairs[number].trains[side]];
+        let (low, high) = (*MOVES.start(), *MOVES.end());
+        rewriting.circle(number, side, lift - random.pick(&[low - 1, low, high, high + 1]));
     }
 
     /// Weights whose sums mostly agree: a mixture of plans, perhaps with its pairs coupled anew.
@@ -310,7 +326,7 @@ impl Session {
             3 => &[1, 100_000, 1_000_000, 0xFF_FFFF],
             // Budgets that are in range come from `budget`, which bounds the work.
             4 => &[0, 10_000_002, 0xFFFF_FFFF],
-            _ => &[0, 1_000_000_000_000, -1_000_000_000_000, TOP, i64::MAX >> 16],
+            _ => &[0, *MOVES.start(), *MOVES.end(), TOP, i64::MAX >> 16],
         };
         let limit = self.random.pick(limits);
         let near = if *width != 4 && self.random.chance(50) { *number } else { limit };

@@ -1,5 +1,5 @@
-//! An independent reference of the junction bound service (document 01, and change 1 of document 02), and the
-//! test tools over it.
+//! An independent reference of the junction bound service (document 01, and the changes of document 02 that have
+//! landed), and the test tools over it.
 
 pub mod calls;
 pub mod claims;
@@ -28,7 +28,7 @@ pub const LONGEST_REPLY: usize = LONGEST_LINE;
 /// A service: line, lent block, lent reply buffer; gives the number of bytes written to its front.
 pub type Service = fn(&[u8], &mut [i64], &mut [u8]) -> usize;
 
-/// Answers one line: document 01 as a whole, and change 1.
+/// Answers one line: document 01 as a whole, and the changes that have landed.
 pub fn answer(line: &[u8], block: &mut [i64], reply: &mut [u8]) -> usize {
     // "17 hands back an empty part and writes nothing."
     if reply.len() < LEAST_BUFFER {

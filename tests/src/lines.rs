@@ -6,8 +6,8 @@ use std::ops::RangeInclusive;
 
 /// "over 19,834 characters" is 2.
 pub const LONGEST_LINE: usize = 19_834;
-const LIFTS: RangeInclusive<i64> = 0..=1_000_000_000_000;
-const MOVES: RangeInclusive<i64> = -1_000_000_000_000..=1_000_000_000_000;
+/// Lifts and moves; those outside are 11. (Change 3: "A lift may now be −10^12 to 10^12".)
+pub const MOVES: RangeInclusive<i64> = -1_000_000_000_000..=1_000_000_000_000;
 /// W.
 const WHOLES: RangeInclusive<i64> = 1..=100_000;
 const BUDGETS: RangeInclusive<i64> = 1..=10_000_000;
@@ -53,10 +53,10 @@ impl Fields {
     }
 
     /// Lifts or moves: 6 bytes each, "two's complement, in parts".
-    fn signed(&mut self, count: usize, range: RangeInclusive<i64>) -> Result<Vec<i64>, Refusal> {
+    fn moves(&mut self, count: usize) -> Result<Vec<i64>, Refusal> {
         let mut one = || {
             let number = self.number(6)? << 16 >> 16;
-            range.contains(&number).then_some(number).ok_or(Refusal::Move)
+            MOVES.contains(&number).then_some(number).ok_or(Refusal::Move)
         };
         (0..count).map(|_| one()).collect()
     }
@@ -173,10 +173,10 @@ pub fn add(mut fields: Fields, study: &Study) -> Result<Add, Refusal> {
 
 /// "lifts u_i by train (6 each), then for each pair the moves p_i,a by a, then p_j,b by b (6 each)."
 pub fn shift(mut fields: Fields, study: &Study) -> Result<Shift, Refusal> {
-    let lifts = fields.signed(study.trains.len(), LIFTS)?;
+    let lifts = fields.moves(study.trains.len())?;
     let mut moves = Vec::with_capacity(study.pairs.len());
     for Pair { costs, .. } in &study.pairs {
-        moves.push([fields.signed(costs.rows, MOVES)?, fields.signed(costs.columns, MOVES)?]);
+        moves.push([fields.moves(costs.rows)?, fields.moves(costs.columns)?]);
     }
     fields.end()?;
     Ok(Shift { lifts, moves })

@@ -25,35 +25,66 @@ impl Rewriting {
         self.shift.moves[number][side][choice] += amount;
     }
 
-    fn lift(&mut self, train: usize, amount: i64) {
+    /// Moves an amount from every choice of a train to the constant, or gives it back if negative.
+    pub fn lift(&mut self, train: usize, amount: i64) {
         self.study.trains[train].take(0, 0, amount);
         self.study.constant += amount;
         self.shift.lifts[train] += amount;
     }
 
-    /// One random move that leaves no cost below 0.
+    /// Moves an amount from every choice of a pair's train to every choice of the other.
+    fn pass(&mut self, number: usize, side: usize, amount: i64) {
+        let sizes = self.study.pairs[number].trains.map(|train| self.study.size(train));
+        (0..sizes[side]).for_each(|choice| self.transfer(number, side, choice, -amount));
+        (0..sizes[1 - side]).for_each(|choice| self.transfer(number, 1 - side, choice, amount));
+    }
+
+    /// Passes an amount through a pair and back through the constant: the study stays as it is, and the shift has these lifts
+    /// and moves more.
+    pub fn circle(&mut self, number: usize, side: usize, amount: i64) {
+        let trains = self.study.pairs[number].trains;
+        self.pass(number, side, amount);
+        self.lift(trains[1 - side], amount);
+        self.lift(trains[side], -amount);
+    }
+
+    /// One random move that leaves no cost and no constant below 0.
     pub fn step(&mut self, random: &mut Random) {
-        if self.study.pairs.is_empty() || random.chance(20) {
-            let train = random.below(self.study.trains.len());
-            return self.lift(train, part(random, self.study.trains[train].least(0, 0)));
+        if self.study.pairs.is_empty() || random.chance(30) {
+            return self.lift_step(random);
         }
         let number = random.below(self.study.pairs.len());
         let side = random.below(2);
         let Pair { trains, costs } = &self.study.pairs[number];
         let train = &self.study.trains[trains[side]];
-        let (size, other_size) = (train.columns, self.study.size(trains[1 - side]));
-        let choice = random.below(size);
+        let choice = random.below(train.columns);
         match random.below(3) {
             // From the pair to a choice.
             0 => self.transfer(number, side, choice, part(random, costs.least(side, choice))),
             // From a choice to the pair.
             1 => self.transfer(number, side, choice, -part(random, train.held[choice])),
             // From every choice of this train to every choice of the other.
-            _ => {
-                let amount = part(random, train.least(0, 0));
-                (0..size).for_each(|choice| self.transfer(number, side, choice, -amount));
-                (0..other_size).for_each(|choice| self.transfer(number, 1 - side, choice, amount));
+            _ => self.pass(number, side, part(random, train.least(0, 0))),
+        }
+    }
+
+    /// A part of the constant goes to every choice of a train.
+    pub fn give_back(&mut self, random: &mut Random) {
+        self.lift(random.below(self.study.trains.len()), -part(random, self.study.constant));
+    }
+
+    /// A move between trains and the constant.
+    fn lift_step(&mut self, random: &mut Random) {
+        let [train, other] = [(); 2].map(|()| random.below(self.study.trains.len()));
+        let amount = part(random, self.study.trains[train].least(0, 0));
+        match random.below(4) {
+            0 => self.give_back(random),
+            // One train lifts what another gets: the lifts' sum is 0.
+            1 => {
+                self.lift(train, amount);
+                self.lift(other, -amount);
             }
+            _ => self.lift(train, amount),
         }
     }
 

@@ -1,4 +1,4 @@
-//! The reference against document 01's own examples, those of a save, and every byte as a digit.
+//! The reference against document 01's own examples, and those of the changes: saves, every byte as a digit, giving back.
 
 use reference::calls::{digest, Call, Setting, FILLING};
 use reference::generator::every_byte;
@@ -81,7 +81,7 @@ fn every_row_of_the_table() {
     assert_eq!(last(&["0101000101000000010000"]), "FF08");
     assert_eq!(last(&[J, "020200000001"]), "FF09");
     assert_eq!(last(&[J, "0200000F4240"]), "FF0A");
-    assert_eq!(last(&[J, "03FFFFFFFFFFFF"]), "FF0B");
+    assert_eq!(last(&[J, "03FF172B5AEFFF"]), "FF0B");
     assert_eq!(last(&[J, &format!("03000000000001{}", zeros(60))]), "FF0C");
     assert_eq!(last(&[J, "05000000"]), "FF0D");
     assert_eq!(last(&[J, &format!("05000001{}", zeros(48))]), "FF0E");
@@ -199,6 +199,65 @@ fn every_digit_is_saved() {
         let load = format!("010100010100000{digit}00");
         assert_eq!(replies(&[&load, "07"]), [ZERO, &load]);
     }
+}
+
+/// Change 3: lifts of −10^12 to 10^12, each judged as soon as it is read.
+#[test]
+fn lifts_have_two_limits() {
+    assert_eq!(last(&[J, "03FF172B5AEFFF"]), "FF0B");
+    assert_eq!(last(&[J, "0300E8D4A51001"]), "FF0B");
+    assert_eq!(last(&[J, "03FFFFFFFFFFFF"]), "FF05");
+    assert_eq!(last(&[J, "03FF172B5AF000"]), "FF05");
+    assert_eq!(last(&[J, "0300E8D4A51000"]), "FF05");
+    let most = 1_000_000_000_000;
+    let opposite = shift([-most, most, 0, 0, 0, 0]);
+    assert_eq!(opposite, format!("03FF172B5AF00000E8D4A51000{}", "0".repeat(48)));
+    assert_eq!(last(&[J, "04", &opposite]), "FF0C");
+    // Both ends are taken, where moves through the pair make up for them.
+    assert_eq!(
+        last(&[J, "04", &shift([-most, most, -most, -most, most, most])]),
+        "83000000000002000000000002"
+    );
+    assert_eq!(last(&[J, "04", &shift([-most - 1, most, -most, -most, most, most])]), "FF0B");
+    assert_eq!(last(&[J, "04", &shift([-most, most + 1, -most, -most, most, most])]), "FF0B");
+}
+
+/// Change 3: the constant goes back onto a train's choices, never below 0.
+#[test]
+fn constants_are_given_back() {
+    let from_first = shift([-1, 0, 0, 0, 0, 0]);
+    assert_eq!(from_first, format!("03FFFFFFFFFFFF{}", "0".repeat(60)));
+    let from_second = shift([0, -1, 0, 0, 0, 0]);
+    assert_eq!(from_second, format!("03000000000000FFFFFFFFFFFF{}", "0".repeat(48)));
+    assert_eq!(last(&[J, &from_first]), "FF0C");
+    let lines =
+        [J, "04", &from_first, &from_second, &from_second, "060000000A", CERTIFICATE, "04", &from_second];
+    let answers = [
+        ZERO,
+        "84000000000002000000000002",
+        "83000000000001000000000001",
+        "83000000000000000000000000",
+        "FF0C",
+        "8601000000060000000000020001",
+        "85000000000000000002000001",
+        "84000000000002000000000002",
+        "83000000000001000000000001",
+    ];
+    assert_eq!(replies(&lines), answers);
+    // 1 against −1, through the pair.
+    let circle = shift([1, -1, 1, 1, -1, -1]);
+    assert_eq!(circle, "03000000000001FFFFFFFFFFFF000000000001000000000001FFFFFFFFFFFFFFFFFFFFFFFF");
+    assert_eq!(last(&[J, "04", &circle]), "83000000000002000000000002");
+    // One train of two choices, 2 points and 3, and a scale of 2.
+    let lifts = ["03000000000003", "03FFFFFFFFFFFF", "03FFFFFFFFFFFE", "03FFFFFFFFFFFF"];
+    let answers = [
+        ZERO,
+        "83000000000003000000000002",
+        "83000000000002000000000001",
+        "83000000000000000000000000",
+        "FF0C",
+    ];
+    assert_eq!(replies(&[&["010100020200000200000300"][..], &lifts].concat()), answers);
 }
 
 /// Points that the document leaves short.

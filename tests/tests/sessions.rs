@@ -1,9 +1,9 @@
 //! The document's claims on sessions of small studies, saves on sessions of every size, and the generator's reach.
 
-use reference::calls::{Call, Outcome};
+use reference::calls::{Call, Outcome, Setting};
 use reference::claims::{check_session, Tally};
 use reference::generator::{Reach, Session};
-use reference::lines::saved;
+use reference::lines::{saved, MOVES};
 use reference::model::{decode, BLOCK_LENGTH};
 use reference::saves::Saves;
 use reference::LEAST_BUFFER;
@@ -19,7 +19,7 @@ fn the_claims_hold_by_every_plan() {
         }
     }
     // Each claim was put to the test.
-    assert!(tally.bounds > 5_000 && tally.certificates > 1_000, "{tally:?}");
+    assert!(tally.bounds > 5_000 && tally.falls > 300 && tally.certificates > 1_000, "{tally:?}");
     assert!(tally.reached > 500 && tally.better_rivals > 500 && tally.tight_rivals > 500, "{tally:?}");
     assert!(tally.ended > 500 && tally.spent_with_plan > 500, "{tally:?}");
     assert!(tally.spent_without > 100, "{tally:?}");
@@ -99,6 +99,76 @@ fn the_generator_reaches_every_buffer_of_a_save() {
         seen;
     let counts = [short_by_one, shorter, just_fits, longer_by_one, longer];
     assert!(counts.iter().all(|&count| count > 200) && left_over > 20 && least_holds > 20, "{seen:?}");
+}
+
+/// Which lifts the shifts of loaded blocks have.
+#[derive(Default, Debug)]
+struct Lifts {
+    /// Accepted, a lift being the lowest there is, or the highest.
+    lowest: usize,
+    highest: usize,
+    /// Refused, a lift being one below or one above these.
+    lower: usize,
+    higher: usize,
+    /// Accepted, a lift being below 0: the constant falls, or stays.
+    falls: usize,
+    stays: usize,
+    /// Refused since the constant would be below 0.
+    overdrawn: usize,
+}
+
+impl Lifts {
+    /// A shift's lifts, the block's constant before it, and the reply.
+    fn count(&mut self, lifts: &[i64], constant: i64, reply: &[u8]) {
+        let (low, high) = (*MOVES.start(), *MOVES.end());
+        let sum: i64 = lifts.iter().sum();
+        let has = |lift: i64| lifts.contains(&lift);
+        let seen = |count: &mut usize, holds: bool| *count += usize::from(holds);
+        match reply {
+            b"FF0B" => {
+                seen(&mut self.lower, has(low - 1));
+                seen(&mut self.higher, has(high + 1));
+            }
+            b"FF0C" => seen(&mut self.overdrawn, sum == -constant - 1),
+            [b'8', b'3', ..] => {
+                seen(&mut self.lowest, has(low));
+                seen(&mut self.highest, has(high));
+                seen(&mut self.falls, sum < 0);
+                seen(&mut self.stays, sum == 0 && lifts.iter().any(|&lift| lift < 0));
+            }
+            _ => {}
+        }
+    }
+}
+
+/// The lifts of a line of kind 03, where all are there.
+fn lifts(line: &[u8], trains: usize) -> Option<Vec<i64>> {
+    let digits = std::str::from_utf8(line.get(2..2 + 12 * trains)?).ok()?;
+    let lift = |place: usize| Some(i64::from_str_radix(&digits[12 * place..][..12], 16).ok()? << 16 >> 16);
+    (0..trains).map(lift).collect()
+}
+
+#[test]
+fn the_generator_reaches_the_limits_of_lifts() {
+    let mut seen = Lifts::default();
+    let mut constant = 0;
+    generated(|call, outcome| {
+        if let Setting::Edited(edits) = &call.setting {
+            edits.iter().filter(|edit| edit.0 == 3).for_each(|edit| constant = edit.1);
+        }
+        match decode(&outcome.block) {
+            Ok(Some(study)) if call.line.starts_with(b"03") => {
+                if let Some(lifts) = lifts(&call.line, study.trains.len()) {
+                    seen.count(&lifts, constant, outcome.reply());
+                }
+            }
+            _ => {}
+        }
+        constant = outcome.block.get(3).copied().unwrap_or(constant);
+    });
+    let Lifts { lowest, highest, lower, higher, falls, stays, overdrawn } = seen;
+    let counts = [lowest, highest, lower, higher, falls, stays, overdrawn];
+    assert!(counts.iter().all(|&count| count > 50), "{seen:?}");
 }
 
 #[test]

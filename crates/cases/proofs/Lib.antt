@@ -14,3 +14,4 @@ pub mod Refusals
 pub mod Unequal
 pub mod PlanCosts
 pub mod Saves
+pub mod GivenBack

@@ -1,4 +1,4 @@
--- 'What is declined, with an input for each': document 01's seventeen rows in its order, each with the document's own example; then inputs that two rows decline, for the order of the reasons.
+-- 'What is declined, with an input for each': document 01's seventeen rows in its order, each with the document's own example, 11 with that of document 02, change 3; then inputs that two rows decline, for the order of the reasons.
 use mathlib.Core.Path.{refl}
 use mathlib.Core.Bool.{false}
 use mathlib.Core.List.{List, [], _∷_}
@@ -38,8 +38,8 @@ table =
     ∷ declined j "020200000001" "FF09"
     -- 10: 'H would pass 1,000,000'
     ∷ declined j "0200000F4240" "FF0A"
-    -- 11: 'lift outside 0 to 10^12, move outside ±10^12'
-    ∷ declined j "03FFFFFFFFFFFF" "FF0B"
+    -- 11: a lift outside −10^12 to 10^12, 'move outside ±10^12': a lift of −10^12 − 1
+    ∷ declined j "03FF172B5AEFFF" "FF0B"
     -- 12: 'c0 or an entry would end below 0 or above L': a lift of 1, 'and 60 zeros'
     ∷ declinedLong j "03000000000001" 60 "FF0C"
     -- 13: 'W outside 1 to 100,000'
@@ -57,6 +57,8 @@ table =
     ∷ declinedLong short "" 19835 "FF10"
     ∷ declined fresh "FFF" "FF01"
     ∷ declined fresh "0400" "FF04"
+    -- a lift of −1 is fine, and the next field is not there
+    ∷ declined j "03FFFFFFFFFFFF" "FF05"
     ∷ []
 
 pub table-right : Right table

@@ -4,16 +4,15 @@ use mathlib.Core.List.{List}
 use Prim.Native.Nat.{ℕ, _-_, _<_, _≤_}
 use native.Mathlib.Omega.{arith}
 use lib.IntN.{ℤ, natAbs}
-use borrow.Author.Tests.{leb-true}
 use Rattle.refusals.specs.declared.Verdict.the-variants.{Fine}
 use Rattle.refusals.specs.Verdicts.{then}
 use Rattle.refusals.proofs.Verdicts.{then-fine}
 use Rattle.tables.specs.Block.{maxCost, trains, size}
 use Rattle.tables.specs.LineLimits.{maxMove, maxFullWeight, maxBudget}
 use Rattle.frames.specs.Digits.{bytes}
-use Rattle.lines.specs.Layout.{numberIn, endOf, further, below, addTrainField, addTrain, addChoiceField, addChoice, pointsField, addPoints, liftField, moveField, shiftMove, fullWeightField, certifyFullWeight, weightField, budgetField, searchBudget}
+use Rattle.lines.specs.Layout.{endOf, further, below, addTrainField, addTrain, addChoiceField, addChoice, pointsField, addPoints, liftField, moveField, shiftLift, shiftMove, fullWeightField, certifyFullWeight, weightField, budgetField, searchBudget}
 use Rattle.lines.specs.Verdicts.{fieldVerdict, lastVerdict}
-use Rattle.lines.proofs.Judged.{field-within, run-fine, run-within, last-fine, runs-fine}
+use Rattle.lines.proofs.Judged.{field-within, run-within, run-around, last-fine, runs-fine}
 use Rattle.kinds.specs.Lines.{addVerdict, shiftVerdict, certifyVerdict, searchVerdict}
 
 -- ---- 02 add
@@ -42,7 +41,7 @@ add-fine l b e =
 -- ---- 03 shift
 
 pub record FineShift (l : List ℕ) (n moves : ℕ) : Type 0 where
-  pub lift : (k : ℕ) → k < n → numberIn l (further liftField k) ≤ maxMove
+  pub lift : (k : ℕ) → k < n → natAbs (shiftLift l k) ≤ maxMove
   pub move : (k : ℕ) → k < moves → natAbs (shiftMove l n k) ≤ maxMove
   pub ends : bytes l ≡ further (moveField n) moves .at
 
@@ -50,11 +49,7 @@ pub shift-fine : (l : List ℕ) (n moves : ℕ) → shiftVerdict l n moves ≡ F
 unfolding shiftVerdict
 shift-fine l n moves e =
     let f = runs-fine l liftField n (moveField n) moves e in
-    record {
-      lift = λ k h. run-within l liftField n (f .0) refl k h .1;
-      move = λ k h. leb-true _ _ (run-fine l (moveField n) moves (f .1) k h .right);
-      ends = f .2;
-    }
+    record { lift = run-around l liftField n (f .0) refl; move = run-around l (moveField n) moves (f .1) refl; ends = f .2 }
 
 -- ---- 05 certify
 

@@ -16,13 +16,13 @@ use refusals::Refusal;
 use refusals::Verdict;
 use tables::block;
 
-// The highest lift, and how far a move is from 0 at most, in parts.
+// How far a lift or a move is from 0 at most, in parts.
 const HIGHEST: u64 = 1000000000000;
-// The first lift.
+// The first lift; the moves are further fields of its run.
 const LIFT: Field = Field {
     at: Kind::WIDTH,
     width: Shift::MOVE_WIDTH,
-    rule: Rule::Between(0, HIGHEST),
+    rule: Rule::Around(HIGHEST),
     refusal: Refusal::Move,
 };
 
@@ -33,12 +33,7 @@ pub fn read_shift(line: &[u8], bytes: usize, block: &[i64]) -> Line
 {
     let n = block::trains(block);
     let count = counts::move_count(block);
-    let first = Field {
-        at: LIFT.further(n).at,
-        width: Shift::MOVE_WIDTH,
-        rule: Rule::Around(HIGHEST),
-        refusal: Refusal::Move,
-    };
+    let first = LIFT.further(n);
     match verdict::runs_verdict(line, bytes, LIFT, n, first, count) {
         Verdict::Declined(r) => Line::Refused(r),
         Verdict::Fine => Line::Asked(Request::Shift(Shift {

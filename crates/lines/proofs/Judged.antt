@@ -6,6 +6,7 @@ use Prim.Native.Nat.{ℕ, zero, suc, _+_, _*_, _<_, _≤_}
 use native.Mathlib.Nat.{mul-zero, mul-suc}
 use native.Mathlib.Omega.{arith}
 use lib.Dec.{leb, eqb}
+use lib.IntN.{natAbs}
 use borrow.Author.Tests.{leb-true, eqb-true}
 use Rattle.theory.proofs.Range.{both-true}
 use Rattle.refusals.specs.declared.Refusal.the-variants.{Fields}
@@ -16,7 +17,7 @@ use Rattle.frames.specs.Digits.{bytes}
 use Rattle.lines.specs.declared.field.Rule.{Rule}
 use Rattle.lines.specs.declared.field.Rule.the-variants.{Any, Between, Around}
 use Rattle.lines.specs.declared.field.Field.{Field}
-use Rattle.lines.specs.Layout.{numberIn, endOf, further}
+use Rattle.lines.specs.Layout.{numberIn, signedIn, endOf, further}
 use Rattle.lines.specs.Verdicts.{obeys, takesAny, fieldVerdict, runVerdict, endVerdict, lastVerdict, runsVerdict}
 
 -- a rule that takes any number is obeyed
@@ -54,6 +55,10 @@ module _ (l : List ℕ) (f : Field) (n : ℕ) (e : runVerdict l f n ≡ Fine) wh
 
   pub run-within : {low high : ℕ} → f .rule ≡ Between low high → (k : ℕ) → k < n → (low ≤ numberIn l (further f k)) × (numberIn l (further f k) ≤ high)
   run-within p k h = field-within l (further f k) p (first-fine (λ j. fieldVerdict l (further f j)) n e k h) .1
+
+  -- of numbers in two's complement: none is further from 0 than the rule says
+  pub run-around : {limit : ℕ} → f .rule ≡ Around limit → (k : ℕ) → k < n → natAbs (signedIn l (further f k)) ≤ limit
+  run-around p k h = leb-true _ _ (subst (λ (r : Rule). obeys r (f .width) (numberIn l (further f k)) ≡ true) p (run-fine k h .right))
 
 -- the run is wholly there
 pub run-there : (l : List ℕ) (f : Field) (n : ℕ) → f .at ≤ bytes l → runVerdict l f n ≡ Fine → f .at + f .width * n ≤ bytes l

@@ -163,13 +163,13 @@ addPoints l = numberIn l pointsField
 
 -- ---- 03 shift: 'lifts u_i by train (6 each), then for each pair the moves'
 
--- 11: 'lift outside 0 to 10^12, move outside ±10^12'
+-- 11: 'A lift may now be −10^12 to 10^12' (document 02, change 3)
 abbrev pub liftField : Field
-liftField = fieldAs kindWidth moveWidth (Between 0 maxMove) Move
+liftField = fieldAs kindWidth moveWidth (Around maxMove) Move
 
--- the first move behind n lifts
+-- the first move behind n lifts: 'move outside ±10^12', the rule of a lift
 abbrev pub moveField : ℕ → Field
-moveField n = fieldAs (further liftField n .at) moveWidth (Around maxMove) Move
+moveField n = further liftField n
 
 -- u_i of train i, and move k of a line with n lifts: 'All are two's complement'
 abbrev pub shiftLift : List ℕ → ℕ → ℤ

@@ -1,4 +1,4 @@
--- Document 01's own examples, computed: each row of 'What is declined' that the reader judges, the lines that only a later rule declines, and marked cases 11 and 12.
+-- Document 01's own examples, computed: each row of 'What is declined' that the reader judges, 11 with the limits of document 02, change 3; the lines that only a later rule declines, and marked cases 11 and 12.
 use mathlib.Core.Bool.{Bool, true, false, cond, _&&_}
 use mathlib.Core.List.{List, [], _∷_, _++_}
 use Prim.Native.Nat.{ℕ}
@@ -104,7 +104,11 @@ cases =
     ∷ row "020200000001" true 9
     ∷ row "0202" true 9
     ∷ row "0200000F4240" true 0
-    ∷ row "03FFFFFFFFFFFF" true 11
+    ∷ row "03FF172B5AEFFF" true 11
+    ∷ row "0300E8D4A51001" true 11
+    ∷ row "03FFFFFFFFFFFF" true 5
+    ∷ row "03FF172B5AF000" true 5
+    ∷ long "03FFFFFFFFFFFF" 60 true 0
     ∷ long "03000000000001" 60 true 0
     ∷ row "05000000" true 13
     ∷ long "05000001" 48 true 0

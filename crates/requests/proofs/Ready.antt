@@ -32,7 +32,7 @@ use Rattle.certificates.specs.Certify.{WeightsFor}
 use Rattle.frames.specs.Digits.{bytes}
 use Rattle.frames.specs.Frames.{maxCharacters, framed, Framed}
 use Rattle.frames.specs.Runs.{runOf, signedRunOf}
-use Rattle.frames.proofs.Widths.{signed-low}
+use Rattle.lines.specs.declared.field.Field.{Field}
 use Rattle.lines.specs.declared.request.Load.{Load}
 use Rattle.lines.specs.declared.request.Add.{Add}
 use Rattle.lines.specs.declared.request.Shift.{Shift}
@@ -40,7 +40,7 @@ use Rattle.lines.specs.declared.request.Certify.{Certify}
 use Rattle.lines.specs.declared.request.Search.{Search}
 use Rattle.lines.specs.declared.request.Request.{Request}
 use Rattle.lines.specs.declared.request.Request.the-variants.{Load as load-of, Add as add-of, Shift as shift-of, Tighten as tighten-of, Certify as certify-of, Search as search-of, Save as save-of}
-use Rattle.lines.specs.Layout.{costWidth, moveWidth, weightWidth, loadTrains, loadScale, choiceCount, loadPairs, loadFirst, loadSecond, pairAt, addTrain, addChoice, addPoints, certifyFullWeight, searchBudget, numberIn, endOf, further, countWidth, pairWidth, sizeField, choiceField, pairCountField, liftField, moveField, shiftLift, shiftMove, weightField}
+use Rattle.lines.specs.Layout.{costWidth, moveWidth, weightWidth, loadTrains, loadScale, choiceCount, loadPairs, loadFirst, loadSecond, pairAt, addTrain, addChoice, addPoints, certifyFullWeight, searchBudget, numberIn, signedIn, endOf, further, countWidth, pairWidth, sizeField, choiceField, pairCountField, liftField, moveField, weightField}
 use Rattle.lines.specs.Verdicts.{fieldRun}
 use Rattle.lines.proofs.Judged.{field-within}
 use Rattle.kinds.specs.Load.{loadVerdict}
@@ -128,18 +128,19 @@ pub record ShiftReady (l : List ℕ) (b : List ℤ) (q : Shift) : Type 0 where
   pub lifts : SmallMoves (signedRunOf l (q .lifts .at) moveWidth (q .lifts .count))
   pub moves : SmallMoves (signedRunOf l (q .moves .at) moveWidth (q .moves .count))
 
--- a list whose numbers are all near to 0
-small-list : (f : ℕ → ℤ) (n : ℕ) → ((k : ℕ) → k < n → mag (f k) ≤ maxMove) → SmallMoves (listOf n f)
-small-list f n h =
-    record {
-      small = λ i.
-          dite (decLt i n) (λ (k : i < n). rw (list-nth f (pos 0) n i k) (h i k))
-          (λ (k : i < n → ⊥). rw (list-past f (pos 0) n i (omega (arith, k))) (omega arith));
-    }
-
 mag-most : (z : ℤ) → mag z ≤ natAbs z
 mag-most (pos n) = omega arith
 mag-most (negsuc n) = omega arith
+
+-- the numbers of a run of lifts or of moves, none of them further from 0 than these may be
+small-run : (l : List ℕ) (f : Field) (n : ℕ) → ((k : ℕ) → k < n → natAbs (signedIn l (further f k)) ≤ maxMove) → SmallMoves (signedRunOf l (f .at) (f .width) n)
+small-run l f n h =
+    let z : ℕ → ℤ = λ k. signedIn l (further f k) in
+    record {
+      small = λ i.
+          dite (decLt i n) (λ (k : i < n). rw (list-nth z (pos 0) n i k) (omega (arith, mag-most (z i), h i k)))
+          (λ (k : i < n → ⊥). rw (list-past z (pos 0) n i (omega (arith, k))) (omega arith));
+    }
 
 pub shift-ready : {l : List ℕ} {b : List ℤ} {q : Shift} {room : ℕ} → Asks l b (shift-of q) room → ShiftReady l b q
 shift-ready {l} {b} {q} a =
@@ -155,8 +156,8 @@ shift-ready {l} {b} {q} a =
       move-count = (refl, move-count-most s);
       lifts-inside = omega (arith, f .ends, even a);
       moves-inside = omega (arith, f .ends, even a);
-      lifts = small-list (shiftLift l) (trains b) (λ k h. let low = f .lift k h in rw (signed-low moveWidth (numberIn l (further liftField k)) (omega arith)) low);
-      moves = small-list (shiftMove l (trains b)) (moveCount (shapeOf b)) (λ k h. omega (arith, mag-most (shiftMove l (trains b) k), f .move k h));
+      lifts = small-run l liftField (trains b) (f .lift);
+      moves = small-run l (moveField (trains b)) (moveCount (shapeOf b)) (f .move);
     })
 
 -- ---- 01 load

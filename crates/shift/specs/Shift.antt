@@ -14,7 +14,7 @@ use Rattle.rewriting.specs.declared.sides.Side.the-variants.{Rows, Columns}
 use Rattle.rewriting.specs.Judged.{judged, judgedBlock}
 use Rattle.rewriting.specs.Moves.{laneTrain, project, projectUnary}
 
--- 11, 'lift outside 0 to 10^12, move outside ±10^12', is judged before: none is further from 0
+-- 11, a lift or a move outside ±10^12, is judged before: none is further from 0
 pub record SmallMoves (l : List ℤ) : Type 0 where
   pub small : (i : ℕ) → mag (at l i) ≤ maxMove
 

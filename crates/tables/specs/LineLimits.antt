@@ -1,7 +1,7 @@
 -- Document 01, 'What is declined' 11, 13 and 15: the ranges of the numbers that lines carry, beside those of the block.
 use Prim.Native.Nat.{ℕ}
 
--- 'lift outside 0 to 10^12, move outside ±10^12', in parts
+-- 11: how far a lift or a move is from 0 at most, in parts: 'A lift may now be −10^12 to 10^12' (document 02, change 3), 'move outside ±10^12'
 abbrev pub maxMove : ℕ
 maxMove = 1000000000000
 
