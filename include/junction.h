@@ -24,7 +24,7 @@ extern "C" {
  *
  * The line has no line end. The reply has no line end and no zero byte behind it. The line is only read.
  *
- * What is proved, for every line, every block and every buffer, of any contents and any lengths (contract `Answers`, crates/service/specs/Wrote.antt):
+ * What is proved, for every line, every block and every buffer, of any contents and any lengths (contract `Answers`, crates/requests/specs/Wrote.antt):
  * the result, the block afterwards and the whole buffer afterwards are those of the definition `answer` in crates/service/specs/Answer.antt. So:
  * - The first bytes of the buffer, as many as the result says, are the reply. Every byte behind them stays as it was.
  * - The block afterwards is the one that an accepted load, add, shift or tighten makes; certify, search and save leave it as it was.

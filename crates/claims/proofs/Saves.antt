@@ -1,9 +1,8 @@
 -- A save straight after an accepted load gives that line back, and a saved line loads the same study on every well-formed block: what `saving` says of the texts, said of calls.
-use mathlib.Core.Path.{_≡_, refl, sym, ap, subst, _∙_}
+use mathlib.Core.Path.{_≡_, refl, ap, _∙_}
 use mathlib.Core.Bool.{true, false}
-use mathlib.Core.List.{List, []}
-use Prim.Native.Nat.{ℕ, _<_, _≤_}
-use native.Mathlib.Omega.{arith}
+use mathlib.Core.List.{List}
+use Prim.Native.Nat.{ℕ, _≤_}
 use lib.IntN.{ℤ}
 use lib.ListN.{length}
 use borrow.Author.Tests.{le-ltb, lt-ltb}
@@ -18,12 +17,11 @@ use Rattle.frames.specs.Fields.{field, fieldDigits}
 use Rattle.frames.specs.Frames.{allDigits, framed}
 use Rattle.lines.specs.declared.kind.Kind.{Kind}
 use Rattle.lines.specs.declared.kind.Kind.the-variants as kind
-use Rattle.lines.specs.declared.kind.NewKind.the-variants.{Known}
 use Rattle.lines.specs.declared.request.Request.{Request}
 use Rattle.lines.specs.declared.request.Request.the-variants.{Save}
 use Rattle.lines.specs.declared.request.Line.the-variants.{Asked}
 use Rattle.lines.specs.Kinds.{newKind, requestKind}
-use Rattle.lines.specs.Layout.{kindOf}
+use Rattle.lines.proofs.KindNumbers.{number-kind}
 use Rattle.lines.specs.Text.{loadDigits}
 use Rattle.kinds.specs.Load.{loadRequest}
 use Rattle.kinds.specs.Lines.{kindRequest}
@@ -32,16 +30,17 @@ use Rattle.decoding.proofs.LoadRange.{load-in-range}
 use Rattle.reader.specs.Reading.{studyLine, kindLine, lineOf}
 use Rattle.reader.proofs.LineAccepted.{line-makes}
 use Rattle.reader.proofs.LineKind.{line-known}
-use Rattle.saving.proofs.Together.{save-framed, save-again, save-as-loaded}
+use Rattle.saving.proofs.Together.{save-framed, save-kind, save-again, save-study, save-as-loaded}
 use Rattle.saving.proofs.SavedLines.{save-read, save-after-line}
+use Rattle.replies.specs.Replies.{boundReply}
 use Rattle.requests.specs.Answer.{answered, saved, requested, fitted}
-use Rattle.requests.specs.Wrote.{Asks}
 use Rattle.requests.proofs.LineCases.{asked-line, fixed-line}
 use Rattle.service.specs.Answer.{minBuffer, answer}
 use Rattle.service.proofs.AnswerCases.{fixed-fit}
 use Rattle.service.proofs.Calls.{answered-line}
 use Rattle.claims.specs.Ledger.{accepted}
-use Rattle.claims.specs.Saves.{saveLine, SavesAs, SaveAfterLoad, LoadsAgain, LoadAfterSave}
+use Rattle.claims.specs.Saves.{saveLine, SavesAs, SaveAfterLoad, LoadAfterSave}
+use Rattle.claims.proofs.Accepted.{bound-accepted}
 use Rattle.claims.proofs.Shifts.{accepted-asks}
 
 -- ---- a save
@@ -64,10 +63,11 @@ saves-as {b} s e =
 
 -- ---- straight after an accepted load
 
--- what a line that asks for a load leaves
-load-leaves : (l : List ℕ) (b : List ℤ) (buffer : List ℕ) → minBuffer ≤ length buffer → wellFormed b ≡ true → lineOf l b ≡ Asked (loadRequest l) → answer l b buffer .block ≡ loadedBlock (numbersOf l)
+-- what a line that asks for a load is answered
+load-answer : (l : List ℕ) (b : List ℤ) (buffer : List ℕ) → minBuffer ≤ length buffer → wellFormed b ≡ true → lineOf l b ≡ Asked (loadRequest l)
+    → answer l b buffer ≡ answered (loadedBlock (numbersOf l)) (boundReply kind.Load (loadedBlock (numbersOf l)))
 unfolding requested
-load-leaves l b d h right e = rw (answered-line l b d h right, fixed-line l b (length d) (fixed-fit d h) right (loadRequest l) refl e)
+load-answer l b d h right e = rw (answered-line l b d h right, fixed-line l b (length d) (fixed-fit d h) right (loadRequest l) refl e)
 
 pub save-after-load : SaveAfterLoad
 save-after-load l b d known y =
@@ -76,7 +76,7 @@ save-after-load l b d known y =
     let same : requestKind (w .request) ≡ kind.Load = cc in
     let made : w .request ≡ loadRequest l = line-makes l b (w .request) (w .asks .asked) .1 .0 ∙ ap (λ (j : Kind). kindRequest j l b) same in
     let asked : lineOf l b ≡ Asked (loadRequest l) = w .asks .asked ∙ ap Asked made in
-    rw (load-leaves l b d (w .large) (w .asks .right) asked)
+    rw (load-answer l b d (w .large) (w .asks .right) asked)
     (saves-as (load-study (load-in-range l (line-makes l b (loadRequest l) asked .1 .1))) (save-after-line l b _ asked))
 
 -- ---- a load of a saved line
@@ -84,12 +84,16 @@ save-after-load l b d known y =
 pub load-after-save : LoadAfterSave
 load-after-save b s =
     let l = loadDigits (savedNumbers b) in
-    let leaves : (c : List ℤ) (d : List ℕ) → wellFormed c ≡ true → minBuffer ≤ length d → answer l c d .block ≡ loadedBlock (numbersOf l) = λ c d right h. load-leaves l c d h right (save-read s c) in
+    let whole : (c : List ℤ) (d : List ℕ) → wellFormed c ≡ true → minBuffer ≤ length d
+    → answer l c d ≡ answered (loadedBlock (numbersOf l)) (boundReply kind.Load (loadedBlock (numbersOf l))) = λ c d right h. load-answer l c d h right (save-read s c) in
     let f = save-framed s in
     record {
       line = l;
       saved = saves-as s refl;
+      kind = rw (save-kind s) (number-kind kind.Load);
       frame = record { digits = f .digits; whole = refl; short = f .short };
-      same = λ c d right h. rw (leaves c d right h) (save-again s);
-      loaded = λ c d right h. rw (leaves c d right h) (save-as-loaded s);
+      taken = λ c d right h. rw (whole c d right h) (bound-accepted kind.Load (loadedBlock (numbersOf l)));
+      study = λ c d right h. rw (whole c d right h) (save-study s);
+      same = λ c d right h. rw (whole c d right h) (save-again s);
+      loaded = λ c d right h. rw (whole c d right h) (save-as-loaded s);
     }

@@ -87,7 +87,7 @@ pub record SameLedger (h g : Ledger) : Type 0 where
 pub record SaveClaim (g : Ledger) (e : Exchange) : Type 0 where
   -- that every block takes (`long-save`)
   pub taken : (b : List ℤ) → lineOf (e .reply) b ≡ Asked (loadRequest (e .reply))
-  -- 'read as a load line, its reply gives the ledger's n, s, sizes, pairs and costs at that line' (`other-save`)
+  -- read as a load line, its reply gives the ledger's n, s, sizes, pairs and costs at that line (`other-save`)
   pub gives : SameLedger (numbersLedger (numbersOf (e .reply))) g
 
 -- each kind's own (`high-bound`, `high-added`, `high-shifted`, `high-tightened`)

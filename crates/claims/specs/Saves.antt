@@ -18,11 +18,11 @@ use Rattle.requests.specs.Answer.{answered}
 use Rattle.service.specs.Answer.{minBuffer, answer}
 use Rattle.claims.specs.Ledger.{accepted}
 
--- '07 save: no fields'
+-- 'Kind 07, with no fields'
 unfoldable pub saveLine : List ℕ
 saveLine = fieldDigits kindWidth (kindNumber Save) []
 
--- a save of the block b gives the line l in every buffer that holds it, in a shorter one nothing, and leaves the block
+-- a save of the block b gives the line l in every buffer of 72 bytes or more that holds it, in a shorter one of 72 or more nothing, and leaves the block
 pub record SavesAs (b : List ℤ) (l : List ℕ) : Type 0 where
   pub given : (buffer : List ℕ) → minBuffer ≤ length buffer → length l ≤ length buffer → answer saveLine b buffer ≡ answered b l
   pub late : (buffer : List ℕ) → minBuffer ≤ length buffer → length buffer < length l → answer saveLine b buffer ≡ answered b []
@@ -35,11 +35,16 @@ SaveAfterLoad = (l : List ℕ) (b : List ℤ) (buffer : List ℕ) → newKind (k
 pub record LoadsAgain (b : List ℤ) : Type 0 where
   pub line : List ℕ
   pub saved : SavesAs b line
-  -- 'at most 19,834 characters'
+  -- 'answers with a load line', which is not 'over 19,834 characters'
+  pub kind : newKind (kindOf line) ≡ Known Load
   pub frame : Framed line (bytes line)
+  -- every well-formed block accepts it, and then holds a study: no number is below 0, and every unused place is 0
+  pub taken : (c : List ℤ) (buffer : List ℕ) → wellFormed c ≡ true → minBuffer ≤ length buffer → accepted (answer line c buffer .reply) ≡ true
+  pub study : (c : List ℤ) (buffer : List ℕ) → wellFormed c ≡ true → minBuffer ≤ length buffer → Study (answer line c buffer .block)
   pub same : (c : List ℤ) (buffer : List ℕ) → wellFormed c ≡ true → minBuffer ≤ length buffer → SameLoaded b (answer line c buffer .block)
   -- 'T becomes s × H, c0 becomes 0'
   pub loaded : (c : List ℤ) (buffer : List ℕ) → wellFormed c ≡ true → minBuffer ≤ length buffer → AsLoaded (answer line c buffer .block)
 
+-- of every block that holds a study
 abbrev pub LoadAfterSave : Type 0
 LoadAfterSave = (b : List ℤ) → Study b → LoadsAgain b

@@ -9,7 +9,7 @@ use Rattle.lines.specs.declared.kind.NewKind.the-variants.{Known, NoSuch
 use Rattle.lines.specs.declared.request.Request.{Request}
 use Rattle.lines.specs.declared.request.Request.the-variants.{Load, Add, Shift, Tighten, Certify, Search, Save}
 
--- '01 load', '02 add', '03 shift', '04 tighten', '05 certify', '06 search', '07 save'
+-- '01 load', '02 add', '03 shift', '04 tighten', '05 certify', '06 search'; document 02: 'Kind 07', a save
 abbrev pub kindNumber : Kind → ℕ
 kindNumber kind.Load = 1
 kindNumber kind.Add = 2

@@ -54,7 +54,7 @@ abbrev pub certified : ℕ → Certificate → List ℤ → Answer
 certified fullWeight Unbalanced b = declined b Sums
 certified fullWeight (Balanced c) b = answered b (certifyReply fullWeight c)
 
--- 07: 'the load line of the block's n, s, sizes, pairs and H'; it changes nothing in the block
+-- 'Kind 07, with no fields, answers with a load line for H'; it changes nothing in the block
 abbrev pub saved : List ℤ → Answer
 saved b = answered b (loadDigits (savedNumbers b))
 

@@ -1,4 +1,4 @@
-// Document 02, change 1, '07 save', carried out and answered. It leaves the block.
+// Document 02, change 1: a save, carried out and answered. It leaves the block.
 ghost use lib.ListN.{length};
 ghost use Rattle.tables.specs.WellFormed.{Study};
 ghost use Rattle.replies.specs.Wrote.{Wrote};
