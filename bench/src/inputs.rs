@@ -86,6 +86,7 @@ fn inputs_of(size: &str, study: &Study) -> Vec<Input> {
         ("certify", &held, certify_line(study), "85"),
         ("search", &held, search_line(SMALL_BUDGET), SEARCH_REPLY),
         ("save", &held, b"07".to_vec(), "01"),
+        ("round", &held, b"08".to_vec(), "88"),
         ("refused-character", &held, with_end(&longest, b"G"), "FF01"),
         ("refused-cost", &held, with_end(&longest, b"FFFFFF"), "FF07"),
         ("refused-kind", &held, b"10".to_vec(), "FF03"),

@@ -1,4 +1,5 @@
-//! The claims of "Lists and the ledger" and of saves, checked from the outside by every plan of small studies.
+//! The claims of "Lists and the ledger", of saves and of rounds, checked from the outside by every plan of small
+//! studies.
 
 use crate::generator::{Reach, Session};
 use crate::model::{Costs, Pair, Study, BLOCK_LENGTH};
@@ -15,6 +16,11 @@ pub struct Tally {
     pub bounds: usize,
     /// Accepted shifts whose constant is below the one before.
     pub falls: usize,
+    pub rounds: usize,
+    /// Rounds of studies in which no two pairs have the same second train, and those of them that raised the
+    /// constant of a study with pairs.
+    pub settled: usize,
+    pub settled_higher: usize,
     pub certificates: usize,
     pub reached: usize,
     /// Rivals whose constant is above the block's c0, and those whose constant is the ceiling.
@@ -139,10 +145,26 @@ impl Ledger {
         Ok(())
     }
 
-    /// What a reply of kinds 01 to 04 or of a search claims "at that line".
+    /// "Where every train has at most one partner of lower number, the constant afterwards equals the least total
+    /// of any plan": s × the least cost. So the bound is the least cost.
+    fn check_round(&self, reply: &[u8], before: i64, plans: &Plans, tally: &mut Tally) -> Result<(), String> {
+        tally.rounds += 1;
+        let mut fields = Reader(&reply[2..]);
+        let (constant, bound) = (fields.number(6), fields.number(6));
+        if !self.costs.branches() {
+            return Ok(());
+        }
+        tally.settled += 1;
+        tally.settled_higher += usize::from(constant > before && !self.costs.pairs.is_empty());
+        let least = least(plans);
+        demand(constant == self.scale * least, "a round's constant isn't the least total")?;
+        demand(bound == least, "a round's bound isn't the least cost")
+    }
+
+    /// What a reply of kinds 01 to 04 and 08 or of a search claims "at that line".
     fn check_reply(&self, reply: &[u8], plans: &Plans, tally: &mut Tally) -> Result<(), String> {
         let mut fields = Reader(reply);
-        let least = plans.iter().map(|&(_, cost)| cost).min().expect("there is a plan");
+        let least = least(plans);
         if fields.number(1) != 0x86 {
             tally.bounds += 1;
             fields.number(6);
@@ -215,6 +237,11 @@ impl Ledger {
     }
 }
 
+/// The least cost of any plan.
+fn least(plans: &Plans) -> i64 {
+    plans.iter().map(|&(_, cost)| cost).min().expect("there is a plan")
+}
+
 pub fn demand(holds: bool, otherwise: &str) -> Result<(), String> {
     holds.then_some(()).ok_or_else(|| otherwise.into())
 }
@@ -235,8 +262,12 @@ pub fn check_session(service: Service, seed: u64, calls: usize, tally: &mut Tall
         feed(&mut ledger, &call.line, reply);
         let mut check = || -> Result<(), String> {
             demand(accepted(reply) || block == before, "a refused line changed the block")?;
-            let add_or_tighten = call.line.starts_with(b"02") || call.line.starts_with(b"04");
-            demand(!add_or_tighten || reply != b"FF0C", "add or tighten gave 12")?;
+            let starts = |kinds: &[&[u8]]| kinds.iter().any(|kind| call.line.starts_with(kind));
+            demand(!starts(&[b"02", b"04", b"08"]) || reply != b"FF0C", "add, tighten or round gave 12")?;
+            demand(
+                !starts(&[b"04", b"08"]) || block[3] >= before[3],
+                "tighten or round lowered the constant",
+            )?;
             let save = call.line.starts_with(b"07");
             demand(!save || block == before, "a save changed the block")?;
             let Some(ledger) = &ledger else { return Ok(()) };
@@ -252,6 +283,9 @@ pub fn check_session(service: Service, seed: u64, calls: usize, tally: &mut Tall
                 Some(shown) => {
                     if shown == b"81" {
                         tally.saves.check_load(service, &block, &call.line)?;
+                    }
+                    if shown == b"88" {
+                        ledger.check_round(reply, before[3], &plans, tally)?;
                     }
                     ledger.check_reply(reply, &plans, tally)
                 }

@@ -2,7 +2,7 @@
 
 use crate::calls::{Call, Setting};
 use crate::lines::{self, LONGEST_LINE, MOVES};
-use crate::model::{self, Costs, Pair, Study, BLOCK_LENGTH, TOP};
+use crate::model::{self, Costs, Pair, Study, BLOCK_LENGTH, PAIRS, TOP};
 use crate::operations::{self, Certificate, Shift};
 use crate::random::Random;
 use crate::rewriting::Rewriting;
@@ -122,20 +122,25 @@ impl Session {
 
     /// Gives the study a c0 and a T that have nothing to do with H.
     fn foreign(&mut self, study: &mut Study) {
-        let palette: &[i64] = match self.random.below(4) {
-            0 => &[0, 1, 2, 3, 10],
-            1 => &[0, 0, 1, TOP / 2, TOP],
-            2 => &[TOP / 2, TOP / 2 + 1, TOP - 1, TOP],
+        let shape = self.random.below(5);
+        let palette: &[i64] = match shape {
+            0 | 1 => &[0, 1, 2, 3, 10],
+            2 => &[0, 0, 1, TOP / 2, TOP],
+            3 => &[TOP / 2, TOP / 2 + 1, TOP - 1, TOP],
             _ => &[0, 5, 1_000, 999_999, 71_999_999_999, 123_456_789],
         };
         for cost in study.tables_mut().flat_map(|costs| &mut costs.held) {
             *cost = self.random.pick(palette);
         }
+        if shape == 0 && !study.pairs.is_empty() {
+            raise(&mut self.random, study);
+        }
         study.constant = 0;
-        let mut tightened = study.clone();
-        if self.random.chance(50) && operations::tighten(&mut tightened).is_ok() {
-            // A tightening would end at L, or one beside it.
-            let near = TOP - tightened.constant + self.random.between(-1, 1);
+        let mut rewritten = study.clone();
+        let rewrite = self.random.pick(&[operations::tighten, operations::round]);
+        if self.random.chance(50) && rewrite(&mut rewritten).is_ok() {
+            // A tightening or a round would end at L, or one beside it.
+            let near = TOP - rewritten.constant + self.random.between(-1, 1);
             study.constant = near.clamp(0, TOP);
         } else {
             study.constant = self.random.pick(palette);
@@ -160,13 +165,14 @@ impl Session {
                 &substitute
             }
         };
-        let mut fields = match self.random.below(23) {
+        let mut fields = match self.random.below(27) {
             _ if load => load_fields(study),
             0..=3 => self.add(study),
             4..=8 => self.shift(study),
             9..=11 => vec![(1, 4)],
             12..=15 => certificate_fields(&self.certificate(study)),
             16..=18 => vec![(1, 7)],
+            19..=21 => vec![(1, 8)],
             _ => vec![(1, 6), (4, self.budget(study))],
         };
         if self.random.chance(15) {
@@ -199,11 +205,7 @@ impl Session {
             Costs::new(rows, columns, repeat_with(cost).take(rows * columns).collect(), scale)
         };
         let trains = sizes.iter().map(|&size| costs(random, 1, size)).collect();
-        let mut keys: Vec<_> = (0..n).flat_map(|j| (0..j).map(move |i| [i, j])).collect();
-        random.shuffle(&mut keys);
-        let most = keys.len().min(48);
-        keys.truncate(if full || random.chance(30) { most } else { random.below(most + 1) });
-        keys.sort();
+        let keys = pairs(random, n, full);
         let pair = |[i, j]: [usize; 2]| Pair { trains: [i, j], costs: costs(random, sizes[i], sizes[j]) };
         Study { scale, constant: 0, trains, pairs: keys.into_iter().map(pair).collect() }
     }
@@ -245,8 +247,8 @@ impl Session {
         shift_fields(&rewriting.shift)
     }
 
-    /// Gives back one part more than the constant has, or brings a lift to a limit or one beyond it while the study stays as
-    /// it is.
+    /// Gives back one part more than the constant has, or brings a lift to a limit or one beyond it while the study
+    /// stays as it is.
     fn strain(&mut self, rewriting: &mut Rewriting) {
         let random = &mut self.random;
         let Study { trains, pairs, constant, .. } = &rewriting.study;
@@ -361,10 +363,68 @@ impl Session {
                 repeat_with(|| random.number() as u8).take(length).collect()
             }
             _ => random
-                .pick(&["00", "10", "81", "FF", "1", "01", "02", "03", "0400", "05", "06", "0700", "070707"])
+                .pick(&[
+                    "00", "10", "81", "FF", "1", "01", "02", "03", "0400", "05", "06", "0700", "070707",
+                    "0800", "080808",
+                ])
                 .into(),
         }
     }
+}
+
+/// The pairs of n trains, ascending: any (if full, as many as there may be), or of a shape that matters to rounds.
+fn pairs(random: &mut Random, n: usize, full: bool) -> Vec<[usize; 2]> {
+    let most = *PAIRS.end() as usize;
+    let mut trains: Vec<usize> = (0..n).collect();
+    let mut keys: Vec<[usize; 2]> = match random.below(10) {
+        // Each train has at most one partner of lower number.
+        0..=2 => {
+            let mut keys: Vec<_> = (1..n).map(|j| [random.below(j), j]).collect();
+            keys.retain(|_| random.chance(85));
+            keys
+        }
+        // A tree, its trains numbered anyhow.
+        3 => {
+            random.shuffle(&mut trains);
+            (1..n).map(|place| [trains[random.below(place)], trains[place]]).collect()
+        }
+        // All pairs of some trains.
+        4 => {
+            random.shuffle(&mut trains);
+            trains.truncate(random.pick(&[3, 4, 10]));
+            trains
+                .iter()
+                .enumerate()
+                .flat_map(|(place, &j)| trains[..place].iter().map(move |&i| [i, j]))
+                .collect()
+        }
+        // All pairs of some second trains.
+        5 => (0..2).map(|_| random.below(n)).flat_map(|j| (0..j).map(move |i| [i, j])).collect(),
+        shape => {
+            let mut keys: Vec<_> = (0..n).flat_map(|j| (0..j).map(move |i| [i, j])).collect();
+            random.shuffle(&mut keys);
+            let all = keys.len().min(most);
+            keys.truncate(if full || shape < 8 { all } else { random.below(all + 1) });
+            keys
+        }
+    };
+    keys.iter_mut().for_each(|pair| pair.sort());
+    keys.sort();
+    keys.dedup();
+    keys.truncate(most);
+    keys
+}
+
+/// Raises numbers so that a round passes L where a pair takes its second train's costs, and comes down again where
+/// its rows' leasts move.
+fn raise(random: &mut Random, study: &mut Study) {
+    let number = random.below(study.pairs.len());
+    let pair = &mut study.pairs[number];
+    let costs = &mut study.trains[pair.trains[1]];
+    let choice = random.below(costs.columns);
+    costs.take(0, 0, -TOP / 10);
+    costs.held[choice] += TOP / 2;
+    pair.costs.take(1, choice, -TOP / 20 * 9);
 }
 
 /// Gives each pair new weights with the same sums.

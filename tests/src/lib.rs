@@ -45,7 +45,7 @@ pub fn answer(line: &[u8], block: &mut [i64], reply: &mut [u8]) -> usize {
     digits.len()
 }
 
-/// The reply's bytes. The block is written only where a line of kinds 01 to 04 is accepted.
+/// The reply's bytes. The block is written only where a line of kinds 01 to 04 or 08 is accepted.
 fn respond(line: &[u8], block: &mut [i64]) -> Result<Vec<u8>, Refusal> {
     // "Order: 17, 16, 2, 1, 3, 4. Then fields from left to right ... Then 10, 12 or 14."
     let state = model::decode(block)?;
@@ -92,10 +92,17 @@ fn respond(line: &[u8], block: &mut [i64]) -> Result<Vec<u8>, Refusal> {
             fields.end()?;
             Ok(lines::saved(&study))
         }
+        // "Kind 08, no fields, is a directional round. ... The reply is 88 with constant and bound; 12 applies."
+        Kind::Round => {
+            let mut study = present()?;
+            fields.end()?;
+            operations::round(&mut study)?;
+            Ok(hold(0x88, &study, block))
+        }
     }
 }
 
-/// Writes the study to the block. "Kinds 01 to 04: 81 to 84, c0 in parts (6), bound in points (6)."
+/// Writes the study to the block. "Kinds 01 to 04: 81 to 84, c0 in parts (6), bound in points (6)." So does 88.
 fn hold(code: u8, study: &Study, block: &mut [i64]) -> Vec<u8> {
     study.encode(block);
     let mut bytes = vec![code];

@@ -21,6 +21,7 @@ pub enum Kind {
     Certify,
     Search,
     Save,
+    Round,
 }
 
 /// The bytes behind the kind, read from the left.
@@ -110,6 +111,7 @@ pub fn open(line: &[u8]) -> Result<(Kind, Fields), Refusal> {
         5 => Kind::Certify,
         6 => Kind::Search,
         7 => Kind::Save,
+        8 => Kind::Round,
         _ => return Err(Refusal::NoSuchKind),
     };
     Ok((kind, Fields { bytes, next: 1 }))

@@ -100,6 +100,13 @@ impl Study {
         (parts + self.scale - 1) / self.scale
     }
 
+    /// "Every train has at most one partner of lower number": no two pairs have the same second train.
+    pub fn branches(&self) -> bool {
+        let mut seconds: Vec<usize> = self.pairs.iter().map(|pair| pair.trains[1]).collect();
+        seconds.sort();
+        seconds.is_sorted_by(|last, next| last < next)
+    }
+
     /// The costs of every train and every pair.
     pub fn tables(&self) -> impl Iterator<Item = &Costs> {
         self.trains.iter().chain(self.pairs.iter().map(|pair| &pair.costs))

@@ -1,6 +1,6 @@
-//! Add, shift, tighten and certify. A refused study is thrown away by the caller.
+//! Add, shift, tighten, the directional round and certify. A refused study is thrown away by the caller.
 
-use crate::model::{Refusal, Study, COSTS};
+use crate::model::{Costs, Refusal, Study, COSTS};
 
 pub struct Add {
     pub train: usize,
@@ -56,17 +56,49 @@ pub fn shift(study: &mut Study, shift: &Shift) -> Result<(), Refusal> {
 pub fn tighten(study: &mut Study) -> Result<(), Refusal> {
     for pair in &mut study.pairs {
         for (side, train) in pair.trains.into_iter().enumerate() {
-            for (choice, cost) in study.trains[train].held.iter_mut().enumerate() {
-                let least = pair.costs.least(side, choice);
-                pair.costs.take(side, choice, least);
-                *cost += least;
-            }
+            move_leasts(&mut pair.costs, side, &mut study.trains[train]);
         }
     }
     for costs in &mut study.trains {
-        let least = costs.least(0, 0);
-        costs.take(0, 0, least);
-        study.constant += least;
+        lift_least(costs, &mut study.constant);
+    }
+    study.judge()
+}
+
+/// The least of each line of a pair's costs moves to the choice beside it.
+fn move_leasts(pair: &mut Costs, side: usize, train: &mut Costs) {
+    for (choice, cost) in train.held.iter_mut().enumerate() {
+        let least = pair.least(side, choice);
+        pair.take(side, choice, least);
+        *cost += least;
+    }
+}
+
+/// A train's least cost is taken off every choice and added to c0.
+fn lift_least(train: &mut Costs, constant: &mut i64) {
+    let least = train.least(0, 0);
+    train.take(0, 0, least);
+    *constant += least;
+}
+
+/// A directional round: "For j from n−1 down to 1, each pair (i, j) in order first takes all of c_j(b) into its
+/// entries; then each row's least entry moves to c_i(a). After its pairs, train j lifts its least cost to the
+/// constant; train 0 lifts last."
+pub fn round(study: &mut Study) -> Result<(), Refusal> {
+    for train in (0..study.trains.len()).rev() {
+        for pair in &mut study.pairs {
+            let [first, second] = pair.trains;
+            // Train 0 is second in no pair.
+            if second != train {
+                continue;
+            }
+            for (choice, cost) in study.trains[second].held.iter_mut().enumerate() {
+                pair.costs.line(1, choice).for_each(|cell| pair.costs.held[cell] += *cost);
+                *cost = 0;
+            }
+            move_leasts(&mut pair.costs, 0, &mut study.trains[first]);
+        }
+        lift_least(&mut study.trains[train], &mut study.constant);
     }
     study.judge()
 }

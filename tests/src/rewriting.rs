@@ -39,8 +39,8 @@ impl Rewriting {
         (0..sizes[1 - side]).for_each(|choice| self.transfer(number, 1 - side, choice, amount));
     }
 
-    /// Passes an amount through a pair and back through the constant: the study stays as it is, and the shift has these lifts
-    /// and moves more.
+    /// Passes an amount through a pair and back through the constant: the study stays as it is, and the shift has
+    /// these lifts and moves more.
     pub fn circle(&mut self, number: usize, side: usize, amount: i64) {
         let trains = self.study.pairs[number].trains;
         self.pass(number, side, amount);

@@ -1,4 +1,5 @@
-//! The reference against document 01's own examples, and those of the changes: saves, every byte as a digit, giving back.
+//! The reference against document 01's own examples, and those of the changes: saves, every byte as a digit,
+//! giving back, directional rounds.
 
 use reference::calls::{digest, Call, Setting, FILLING};
 use reference::generator::every_byte;
@@ -155,7 +156,7 @@ fn saves() {
         assert_eq!(last_in(capacity, &[K, "07"]), reply);
     }
     assert_eq!(last_in(LEAST_BUFFER, &[K, "0700"]), "FF05");
-    assert_eq!(most(&[J, "08"]), "FF03");
+    assert_eq!(most(&[J, "09"]), "FF03");
     assert_eq!(most(&[J, "10"]), "FF03");
     // The buffer of a session holds every line.
     assert_eq!(replies(&[K, "07", "0700", J, "07"]), [ZERO, K, "FF05", ZERO, J]);
@@ -258,6 +259,84 @@ fn constants_are_given_back() {
         "FF0C",
     ];
     assert_eq!(replies(&[&["010100020200000200000300"][..], &lifts].concat()), answers);
+}
+
+/// Change 4: the constant that a round gives a study of this line, and what a search finds then.
+fn round(load: &str, constant: &str, search: &str) {
+    assert_eq!(replies(&[load, "08", "06000003E8", "08"]), [ZERO, constant, search, constant]);
+}
+
+/// Change 4: a round of two trains, of one train, and of trains without a pair.
+#[test]
+fn rounds() {
+    const A: &str = "010200010202000001000000000000000001010001000000000000000001000000";
+    let least = "88000000000001000000000001";
+    assert_eq!(
+        replies(&[A, "04", "08", "06000003E8", "08"]),
+        [ZERO, "84000000000000000000000000", least, "8601000000040000000000010000", least]
+    );
+    let with_scale = A.replacen("01020001", "01020002", 1);
+    assert_eq!(last(&[&with_scale, "08"]), "88000000000002000000000001");
+    assert_eq!(last(&[J, "08"]), "88000000000002000000000002");
+    assert_eq!(last(&[J, "08", "060000000A"]), "8601000000040000000000020001");
+    assert_eq!(last(&["010100030200000500000200", "08"]), "88000000000006000000000002");
+    assert_eq!(last(&["01020001020100000500000200000300", "08"]), "88000000000005000000000005");
+    assert_eq!(last(&["08"]), "FF04");
+    assert_eq!(last(&["0800"]), "FF04");
+    assert_eq!(last(&[J, "0800"]), "FF05");
+}
+
+/// Change 4: where a train has two partners of lower number, the constant may stay below the least total.
+#[test]
+fn rounds_settle_branches() {
+    // Pairs 0–1, 0–2 and 2–3, a scale of 2: settled, where tightening is not.
+    const BRANCHES: &str =
+        "0104000202020202000001000000000002000003000000000002000001000000030001000002000002000002000001\
+                            00020000000000030000020000000203000000000002000003000001";
+    assert_eq!(last(&[BRANCHES, "04"]), "84000000000006000000000003");
+    round(BRANCHES, "8800000000000C000000000006", "86010000000800000000000600000000");
+    // Pairs 0–2 and 1–2: a tree, but train 2 has two partners of lower number.
+    const TWO_PARTNERS: &str =
+        "01030001020202000001000002000002000002000002000000020002000001000002000002000000010200000200000\
+                                2000000000001";
+    round(TWO_PARTNERS, "88000000000004000000000004", "86010000000C000000000005010101");
+    const TRIANGLE: &str =
+        "01030001020202000000000000000000000000000000000000030001000001000000000000000001000200000100000\
+                            00000000000010102000001000000000000000001";
+    round(TRIANGLE, "88000000000000000000000000", "86010000000C000000000001000001");
+    assert_eq!(last(&[TRIANGLE, "08", "0600000064"]), "86010000000C000000000001000001");
+}
+
+/// Change 4 on blocks written by hand: the places of c0 and T afterwards.
+#[test]
+fn rounds_of_given_tables() {
+    let rounded = |edits: &str, reply: &str, places: &[(usize, i64)]| {
+        let mut block = vec![0; BLOCK_LENGTH];
+        reference::answer(J.as_bytes(), &mut block, &mut [0; LEAST_BUFFER]);
+        let call = Call::parse(format!("{LEAST_BUFFER} {edits} 08").as_bytes()).unwrap();
+        let mut expected = block.clone();
+        if let Setting::Edited(edits) = &call.setting {
+            edits.iter().for_each(|&(place, value)| expected[place] = value);
+        }
+        places.iter().for_each(|&(place, value)| expected[place] = value);
+        assert_eq!(call.run(reference::answer, &mut block).reply(), reply.as_bytes());
+        assert!(block == expected, "{edits}");
+    };
+    // The rows' leasts are 0 and 2, and then both choices of train 0 have 2.
+    let tables = [(3, 2), (316, 0), (317, 0), (3_588, 1), (3_589, 0)];
+    rounded("-", "88000000000002000000000002", &tables);
+    rounded("3=71999999998", "880010C388D0000010C388D000", &[&tables[1..], &[(3, 72_000_000_000)]].concat());
+    // A constant above L at the end.
+    rounded("3=71999999999", "FF0C", &[]);
+    rounded("3=72000000000", "FF0C", &[]);
+    // Entries above L on the way only: 86,400,000,000 once they have taken c_1(0).
+    let high =
+        "3=0,316=0,317=0,3581=0,3589=0,324=43200000000,3580=43200000000,3588=43200000000,325=21600000000";
+    let (third, rest) = (21_600_000_000, 64_800_000_000);
+    let tables = [(3, third), (324, 0), (325, 0), (3_580, rest), (3_588, rest)];
+    rounded(high, "8800050775D80000050775D800", &tables);
+    // The same with nothing to take at choice 1: they stay above L.
+    rounded(&high.replace("325=21600000000", "325=0"), "FF0C", &[]);
 }
 
 /// Points that the document leaves short.

@@ -4,11 +4,13 @@ use reference::calls::{Call, Outcome, Setting};
 use reference::claims::{check_session, Tally};
 use reference::generator::{Reach, Session};
 use reference::lines::{saved, MOVES};
-use reference::model::{decode, BLOCK_LENGTH};
+use reference::model::{decode, Study, BLOCK_LENGTH, TOP};
+use reference::operations;
 use reference::saves::Saves;
 use reference::LEAST_BUFFER;
 use std::cmp::Ordering;
 use std::collections::BTreeMap;
+use std::mem::replace;
 
 #[test]
 fn the_claims_hold_by_every_plan() {
@@ -19,6 +21,7 @@ fn the_claims_hold_by_every_plan() {
         }
     }
     // Each claim was put to the test.
+    assert!(tally.rounds > 1_000 && tally.settled > 500 && tally.settled_higher > 100, "{tally:?}");
     assert!(tally.bounds > 5_000 && tally.falls > 300 && tally.certificates > 1_000, "{tally:?}");
     assert!(tally.reached > 500 && tally.better_rivals > 500 && tally.tight_rivals > 500, "{tally:?}");
     assert!(tally.ended > 500 && tally.spent_with_plan > 500, "{tally:?}");
@@ -38,15 +41,19 @@ fn saves_hold_on_every_block() {
     assert!(saves.loaded > 2_000 && saves.rewritten > 1_000 && saves.given_back > 100, "{saves:?}");
 }
 
-/// The calls of 600 sessions over every block, each with what it left.
-fn generated(mut see: impl FnMut(&Call, &Outcome)) {
+/// The calls of 600 sessions over every block, each with the block before it, its edits made, and what it left.
+fn generated(mut see: impl FnMut(&Call, &[i64], &Outcome)) {
     for seed in 0..600 {
         let mut session = Session::new(seed, Reach::Blocks);
         let mut block = vec![0; BLOCK_LENGTH];
         for _ in 0..50 {
             let call = session.call(&block);
+            let mut given = block.clone();
+            if let Setting::Edited(edits) = &call.setting {
+                edits.iter().for_each(|&(place, value)| given[place] = value);
+            }
             let outcome = call.run(reference::answer, &mut block);
-            see(&call, &outcome);
+            see(&call, &given, &outcome);
         }
     }
 }
@@ -85,7 +92,7 @@ impl SaveBuffers {
 #[test]
 fn the_generator_reaches_every_buffer_of_a_save() {
     let mut seen = SaveBuffers::default();
-    generated(|call, outcome| {
+    generated(|call, _, outcome| {
         if call.line.starts_with(b"07") && call.capacity >= LEAST_BUFFER {
             if let Ok(Some(study)) = decode(&outcome.block) {
                 let length = 2 * saved(&study).len();
@@ -151,30 +158,99 @@ fn lifts(line: &[u8], trains: usize) -> Option<Vec<i64>> {
 #[test]
 fn the_generator_reaches_the_limits_of_lifts() {
     let mut seen = Lifts::default();
-    let mut constant = 0;
-    generated(|call, outcome| {
-        if let Setting::Edited(edits) = &call.setting {
-            edits.iter().filter(|edit| edit.0 == 3).for_each(|edit| constant = edit.1);
-        }
-        match decode(&outcome.block) {
-            Ok(Some(study)) if call.line.starts_with(b"03") => {
-                if let Some(lifts) = lifts(&call.line, study.trains.len()) {
-                    seen.count(&lifts, constant, outcome.reply());
-                }
+    generated(|call, given, outcome| {
+        if let (b"03", Ok(Some(study))) = (&call.line[..call.line.len().min(2)], decode(given)) {
+            if let Some(lifts) = lifts(&call.line, study.trains.len()) {
+                seen.count(&lifts, study.constant, outcome.reply());
             }
-            _ => {}
         }
-        constant = outcome.block.get(3).copied().unwrap_or(constant);
     });
     let Lifts { lowest, highest, lower, higher, falls, stays, overdrawn } = seen;
     let counts = [lowest, highest, lower, higher, falls, stays, overdrawn];
     assert!(counts.iter().all(|&count| count > 50), "{seen:?}");
 }
 
+/// Which studies rounds are made on.
+#[derive(Default, Debug)]
+struct Rounds {
+    /// Accepted, with some pairs: each train has at most one partner of lower number; another forest; with a circle.
+    branches: usize,
+    forests: usize,
+    circles: usize,
+    /// Accepted, the constant being L at the end, or an entry being above L on the way.
+    highest: usize,
+    above: usize,
+    /// Refused, the constant alone being one above L at the end; an entry being above L, but not the constant.
+    constants: usize,
+    entries: usize,
+}
+
+impl Rounds {
+    fn count(&mut self, study: &Study, reply: &[u8]) {
+        let mut end = study.clone();
+        let judged = operations::round(&mut end);
+        let seen = |count: &mut usize, holds: bool| *count += usize::from(holds);
+        match reply {
+            b"FF0C" => {
+                seen(&mut self.entries, end.constant <= TOP);
+                end.constant = TOP.max(end.constant - 1);
+                seen(&mut self.constants, end.constant == TOP && end.judge().is_ok());
+            }
+            [b'8', b'8', ..] => {
+                assert!(judged.is_ok());
+                let shape = match (study.branches(), is_forest(study)) {
+                    (true, _) => &mut self.branches,
+                    (_, true) => &mut self.forests,
+                    _ => &mut self.circles,
+                };
+                seen(shape, study.pairs.len() > 1);
+                seen(&mut self.highest, end.constant == TOP);
+                seen(&mut self.above, passes_top(study));
+            }
+            _ => {}
+        }
+    }
+}
+
+/// Whether no pair closes a circle.
+fn is_forest(study: &Study) -> bool {
+    let mut groups: Vec<usize> = (0..study.trains.len()).collect();
+    study.pairs.iter().all(|pair| {
+        let [one, other] = pair.trains.map(|train| groups[train]);
+        groups.iter_mut().filter(|group| **group == other).for_each(|group| *group = one);
+        one != other
+    })
+}
+
+/// Whether an entry passes L when its pair, the first of its second train, takes what that train has at the
+/// beginning.
+fn passes_top(study: &Study) -> bool {
+    let mut taken = vec![false; study.trains.len()];
+    study.pairs.iter().any(|pair| {
+        let train = pair.trains[1];
+        let costs = study.trains[train].held.iter().cycle();
+        let first = !replace(&mut taken[train], true);
+        first && pair.costs.held.iter().zip(costs).any(|(entry, cost)| entry + cost > TOP)
+    })
+}
+
+#[test]
+fn the_generator_reaches_every_round() {
+    let mut seen = Rounds::default();
+    generated(|call, given, outcome| {
+        if let (b"08", Ok(Some(study))) = (&call.line[..], decode(given)) {
+            seen.count(&study, outcome.reply());
+        }
+    });
+    let Rounds { branches, forests, circles, highest, above, constants, entries } = seen;
+    assert!([branches, forests, circles].iter().all(|&count| count > 50), "{seen:?}");
+    assert!([highest, above, constants, entries].iter().all(|&count| count > 20), "{seen:?}");
+}
+
 #[test]
 fn the_generator_reaches_every_answer() {
     let mut seen: BTreeMap<(String, String), usize> = BTreeMap::new();
-    generated(|call, outcome| {
+    generated(|call, _, outcome| {
         let reply = String::from_utf8(outcome.reply().to_vec()).unwrap();
         let start = if reply.starts_with("FF") { 4 } else { 2 };
         let kind = String::from_utf8_lossy(&call.line[..call.line.len().min(2)]);
@@ -193,6 +269,7 @@ fn the_generator_reaches_every_answer() {
         ("05", &[1, 4, 5, 13, 14, 16]),
         ("06", &[1, 4, 5, 15, 16]),
         ("07", &[1, 4, 5, 16]),
+        ("08", &[1, 4, 5, 12, 16]),
         ("00", &[2, 3]),
         ("10", &[3]),
     ] {

@@ -12,6 +12,7 @@ pub mod Marked
 pub mod Equations
 pub mod Refusals
 pub mod Unequal
-pub mod PlanCosts
 pub mod Saves
 pub mod GivenBack
+pub mod Rounds
+pub mod PlanCosts

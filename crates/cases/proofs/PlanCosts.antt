@@ -1,4 +1,4 @@
--- What every plan costs by the ledger: of J, and in the course of the session on unequal sizes. The costs are sums of the loaded and added points
+-- What every plan costs by the ledger: of J, in the course of the session on unequal sizes, and after rounds of a branch line. The costs are sums of the loaded and added points
 -- by hand.
 use mathlib.Core.Path.{_≡_, refl}
 use mathlib.Core.List.{List, [], _∷_}
@@ -13,6 +13,7 @@ use Rattle.cases.specs.Sessions.{gets, handed, Session, calls, told}
 use Rattle.cases.specs.PlanCosts.{planCosts}
 use Rattle.cases.proofs.Rows.{right-by, session-told}
 use Rattle.cases.proofs.Unequal as unequal
+use Rattle.cases.proofs.Rounds as rounds
 
 -- J, and an addition that is declined
 unfoldable pub jTable : List Row
@@ -46,10 +47,12 @@ table =
     ∷ after 11 unequal.table (9 ∷ 9 ∷ 10 ∷ 7 ∷ 10 ∷ 7 ∷ [])
     -- 2 points added to train 0, choice 1, then shift and tighten
     ∷ after 14 unequal.table (9 ∷ 9 ∷ 10 ∷ 9 ∷ 12 ∷ 9 ∷ [])
+    -- the branch line, plans 00, 01, 10, 11: loaded; tighten, two rounds and a search change nothing
+    ∷ after 5 rounds.table (1 ∷ 2 ∷ 1 ∷ 1 ∷ [])
     ∷ []
 
 pub table-right : found table ≡ said table
-unfolding computed planCosts told jLine jTable unequal.table after said found table
+unfolding computed planCosts told jLine jTable unequal.table rounds.table after said found table
 table-right = refl
 
 -- ---- the rows are those of calls, so the same is right of the calls' own lines and replies, after the whole of each session

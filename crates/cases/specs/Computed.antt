@@ -6,7 +6,7 @@ use lib.Dec.{ltb}
 use lib.ListN.{length}
 use Rattle.theory.specs.Sum.{sum}
 use Rattle.theory.specs.Range.{all, pass}
-use Rattle.theory.specs.Fold.{iter, least}
+use Rattle.theory.specs.Fold.{iter, down, least}
 use Rattle.theory.specs.Lists.{listFrom, joined}
 use Rattle.units.specs.Units.{roundedUp}
 use Rattle.refusals.specs.declared.Refusal.the-variants.{Malformed}
@@ -18,8 +18,10 @@ use Rattle.operations.specs.Add.{added}
 use Rattle.operations.specs.Load.{loadedBlock}
 use Rattle.operations.specs.Saved.{savedCost, savedNumbers}
 use Rattle.rewriting.specs.Moves.{moveRun}
+use Rattle.rewriting.specs.Leasts.{runLeast, runTightened}
 use Rattle.shift.specs.Shift.{pairShifted, shifted}
-use Rattle.tighten.specs.Tighten.{runLeast, runTightened, pairTightened, tightened}
+use Rattle.tighten.specs.Tighten.{pairTightened, tightened}
+use Rattle.directional.specs.Directional.{runTaken, pairRound, pairTurn, trainRound, directed}
 use Rattle.certificates.specs.Certify.{trainBalanced, rowBalanced, columnBalanced, pairBalanced, balanced, overChoices, overPairs, weighted}
 use Rattle.frames.specs.Digits.{digit, digitOf, byteAt}
 use Rattle.frames.specs.Fields.{field, signed, fieldDigits}
@@ -54,8 +56,8 @@ unfoldable pub computed : List Row → List Left
 unfolding text zeros marks places rows grids laid held call row declined declinedLong silent leftBy said answerOn
     roundedUp
     sum all pass figure within choiceUsed entryUsed headLimits shapeLimits costLimits limitsAt placesRight before follows pairRight pairsRight isZero isFresh holdsStudy wellFormed heldCosts
-    iter least added loadedBlock joined savedCost savedNumbers
-    moveRun pairShifted shifted runLeast runTightened pairTightened tightened
+    iter down least added loadedBlock joined savedCost savedNumbers
+    moveRun pairShifted shifted runLeast runTightened pairTightened tightened runTaken pairRound pairTurn trainRound directed
     trainBalanced rowBalanced columnBalanced pairBalanced balanced overChoices overPairs weighted
     digit digitOf byteAt field signed fieldDigits allDigits framed listFrom runDigits
     newKind pairAt pairDigits pairsDigits loadDigits entriesOf numbersOf firstOf fieldVerdict lastVerdict runsVerdict pairOrdered pairVerdict headVerdict restVerdict loadVerdict

@@ -140,10 +140,10 @@ module _ (s : Shape) (r : Rival) where
       choice-dens) constant-dens)
 
   total-over : Shaped s → (x : ℕ → ℕ) → IsPlan s x → Over common (rivalTotal s r x) (total s numerators x)
-  unfolding rivalTotal total choiceTotal pairTotal numerators IsPlan
+  unfolding rivalTotal total choiceTotal pairTotal numerators
   total-over sh x p =
       over-plus common _ _ _ _
-      (over-plus common (r .gain) _ _ _ gain-over (over-sum common (s .trains) _ _ (λ i l. choice-over i (x i) l (p i l))))
+      (over-plus common (r .gain) _ _ _ gain-over (over-sum common (s .trains) _ _ (λ i l. choice-over i (x i) l (p .below i l))))
       (over-sum common (s .pairs) _ _ (λ k l. pair-over k (x (s .first k)) (x (s .second k)) l (plan-first s sh x p k l) (plan-second s sh x p k l)))
 
 -- ---- of every rival: W times its constant is at most E

@@ -338,16 +338,14 @@ module _ (s : Shape) (sh : Shaped s) (w : Weights) (ag : Agrees s w) (t : Costs)
 
 module _ (s : Shape) (sh : Shaped s) where
   base-plan : IsPlan s base
-  unfolding IsPlan
-  base-plan i h = sh .filled i h
+  base-plan = record { below = sh .filled }
 
   update-plan : (x : ℕ → ℕ) (i a : ℕ) → IsPlan s x → a < s .size i → IsPlan s (update x i a)
-  unfolding IsPlan
-  update-plan x i a p h j q = by (ℕ-discrete j i)
+  update-plan x i a p h = record { below = λ j q. by j q (ℕ-discrete j i) }
     where
-      by : Dec (j ≡ i) → update x i a j < s .size j
-      by (yes e) = omega (arith, update-same x i a j e, ap (s .size) e)
-      by (no e) = omega (arith, update-other x i a j e, p j q)
+      by : (j : ℕ) → j < s .trains → Dec (j ≡ i) → update x i a j < s .size j
+      by j q (yes e) = omega (arith, update-same x i a j e, ap (s .size) e)
+      by j q (no e) = omega (arith, update-other x i a j e, p .below j q)
 
 -- the same total for every plan: the same weighted total
 module _ (s : Shape) (sh : Shaped s) (w : Weights) (ag : Agrees s w) (t u : Costs) (same : (x : ℕ → ℕ) → IsPlan s x → total s t x ≡ total s u x) where

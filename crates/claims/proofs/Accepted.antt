@@ -14,12 +14,12 @@ use Rattle.certificates.specs.declared.certify.Ceiling.{Ceiling}
 use Rattle.frames.specs.Digits.{digit, byteAt}
 use Rattle.frames.specs.Fields.{field}
 use Rattle.lines.specs.declared.kind.Kind.{Kind}
-use Rattle.lines.specs.declared.kind.Kind.the-variants.{Load, Add, Shift, Tighten, Certify, Search, Save}
+use Rattle.lines.specs.declared.kind.Kind.the-variants.{Load, Add, Shift, Tighten, Certify, Search, Save, Round}
 use Rattle.lines.proofs.KindNumbers.{number-low}
 use Rattle.lines.specs.Text.{loadDigits}
 use Rattle.decoding.proofs.Written.{load-kind}
 use Rattle.search.specs.declared.answer.Found.{Found}
-use Rattle.replies.specs.Replies.{refusalByte, refusalReply, replyKind, boundReply, certifyReply, searchReply}
+use Rattle.replies.specs.Replies.{refusalByte, refusalReply, boundReply, certifyReply, searchReply}
 use Rattle.replies.specs.Shown.{kindShown}
 use Rattle.replies.proofs.ReadBack.{refusal-kind, bound-kind, certify-kind, search-kind}
 use Rattle.claims.specs.Ledger.{accepted}
@@ -48,6 +48,7 @@ reply-low Tighten = omega arith
 reply-low Certify = omega arith
 reply-low Search = omega arith
 reply-low Save = omega arith
+reply-low Round = omega arith
 
 -- a reply under it
 pub kind-accepted : (k : Kind) (reply : List ℕ) → kindShown reply ≡ shownKind k → accepted reply ≡ true

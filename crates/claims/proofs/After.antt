@@ -13,7 +13,7 @@ use Rattle.tables.specs.WellFormed.{isZero, wellFormed, freshBlock, isFresh}
 use Rattle.tables.proofs.Study.{study-well-formed}
 use Rattle.lines.specs.declared.kind.NewKind.the-variants.{Known}
 use Rattle.lines.specs.declared.request.Request.{Request}
-use Rattle.lines.specs.declared.request.Request.the-variants.{Load, Add, Shift, Tighten, Certify, Search, Save}
+use Rattle.lines.specs.declared.request.Request.the-variants.{Load, Add, Shift, Tighten, Certify, Search, Save, Round}
 use Rattle.lines.specs.Kinds.{newKind, requestKind}
 use Rattle.lines.specs.Layout.{kindOf}
 use Rattle.reader.proofs.LineAccepted.{Makes, line-makes}
@@ -73,6 +73,7 @@ module _ (g : Ledger) (l : List ℕ) where
   new-request (Certify q) m e = absurd (not-both fresh-is (m .2))
   new-request (Search q) m e = absurd (not-both fresh-is (m .2))
   new-request Save m e = absurd (not-both fresh-is (m .2))
+  new-request Round m e = absurd (not-both fresh-is (m .2))
 
   line-new : (room : ℕ) → longestFixed ≤ room → Called g freshBlock l (lineAnswer l freshBlock room)
   line-new room h =

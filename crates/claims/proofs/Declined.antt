@@ -18,6 +18,7 @@ use Rattle.operations.specs.Load.{loadedBlock}
 use Rattle.operations.specs.Saved.{savedNumbers}
 use Rattle.shift.specs.Shift.{shifted, shiftOutcome}
 use Rattle.tighten.specs.Tighten.{tightened, tightenOutcome}
+use Rattle.directional.specs.Directional.{directed, directOutcome}
 use Rattle.certificates.specs.declared.certify.Certificate.{Certificate}
 use Rattle.certificates.specs.declared.certify.Certificate.the-variants.{Unbalanced, Balanced}
 use Rattle.certificates.specs.Certify.{weightsOf, certificate}
@@ -25,7 +26,7 @@ use Rattle.frames.specs.Runs.{runOf, signedRunOf}
 use Rattle.lines.specs.declared.kind.Kind.{Kind}
 use Rattle.lines.specs.declared.kind.Kind.the-variants as kind
 use Rattle.lines.specs.declared.request.Request.{Request}
-use Rattle.lines.specs.declared.request.Request.the-variants.{Load, Add, Shift, Tighten, Certify, Search, Save}
+use Rattle.lines.specs.declared.request.Request.the-variants.{Load, Add, Shift, Tighten, Certify, Search, Save, Round}
 use Rattle.lines.specs.Layout.{moveWidth, weightWidth}
 use Rattle.decoding.specs.Numbers.{numbersOf}
 use Rattle.search.specs.Answer.{searchAnswer}
@@ -77,6 +78,7 @@ module _ (l : List ℕ) (b : List ℤ) where
   either-requested (Certify q) = either-certified (q .full) (certificate b (weightsOf b (q .full) (runOf l (q .weights .at) weightWidth (q .weights .count)))) b
   either-requested (Search q) = inl (search-accepted (trains b) (searchAnswer b (q .budget)))
   either-requested Save = inl (save-accepted (savedNumbers b))
+  either-requested Round = either-operated kind.Round (directOutcome b) b (directed b)
 
   either-line : (room : ℕ) → longestFixed ≤ room → wellFormed b ≡ true → Either b (lineAnswer l b room)
   either-line room h right = line-cases l b room h right (λ a. Either b a) (λ r e. either-declined b r) (λ q a f. either-requested q) (λ q a f. either-empty b)

@@ -33,11 +33,11 @@ module _ {g : Ledger} {b : List ℤ} (k : Keeps g b) where
 
   -- a plan's cost by the ledger is its total in H
   pub cost-is : (x : ℕ → ℕ) → IsPlan (shapeOf b) x → costOf g x ≡ loadedTotal b x
-  unfolding IsPlan loadedCosts
+  unfolding loadedCosts
   cost-is x p =
       let sh = study-shaped (k .study) in
       sym (alike-total (k .same .shape-same) (g .costs) x)
-      ∙ sym (total-cong (shapeOf b) (loadedCosts b) (g .costs) x (sym (k .no-constant)) (λ i h. k .same .choices-same i (x i) h (p i h))
+      ∙ sym (total-cong (shapeOf b) (loadedCosts b) (g .costs) x (sym (k .no-constant)) (λ i h. k .same .choices-same i (x i) h (p .below i h))
       (λ j h. k .same .entries-same j (x (first b j)) (x (second b j)) h (plan-first (shapeOf b) sh x p j h) (plan-second (shapeOf b) sh x p j h)))
 
   -- every plan's total is s times its cost
@@ -70,13 +70,12 @@ total-most s t x n m zero choices entries =
 
 -- a cost of a plan's pair is within its limit
 pub entry-most : {b : List ℤ} → Study b → (x : ℕ → ℕ) → IsPlan (shapeOf b) x → (j : ℕ) → j < pairs b → loadedEntry b j (x (first b j)) (x (second b j)) ≤ maxCost
-unfolding IsPlan
-entry-most {b} s x p j h = loaded-entry-range s j h _ _ (p (first b j) (first-below-trains s j h)) (p (second b j) (second-below-trains s j h)) .high
+entry-most {b} s x p j h = loaded-entry-range s j h _ _ (p .below (first b j) (first-below-trains s j h)) (p .below (second b j) (second-below-trains s j h)) .high
 
 pub loaded-total-most : {b : List ℤ} → Study b → (x : ℕ → ℕ) → IsPlan (shapeOf b) x → loadedTotal b x ≤ (maxTrains + maxPairs) * maxCost
-unfolding IsPlan loadedCosts
+unfolding loadedCosts
 loaded-total-most {b} s x p =
-    total-most (shapeOf b) (loadedCosts b) x (trains-range s .1) (pairs-range s) refl (λ i h. loaded-choice-range s i (x i) h (p i h) .high) (entry-most s x p)
+    total-most (shapeOf b) (loadedCosts b) x (trains-range s .1) (pairs-range s) refl (λ i h. loaded-choice-range s i (x i) h (p .below i h) .high) (entry-most s x p)
 
 -- so that its total in T is at most L
 pub scaled-most : {b : List ℤ} → Study b → (v : ℕ) → v ≤ (maxTrains + maxPairs) * maxCost → scale b * v ≤ maxParts

@@ -1,5 +1,6 @@
 -- Each operation keeps the block and the ledger together.
 use mathlib.Core.Path.{_≡_, refl, sym, ap, subst, _∙_}
+use mathlib.Core.Bool.{true}
 use mathlib.Core.List.{List}
 use mathlib.Core.Logic.{inl, inr}
 use Prim.Native.Nat.{ℕ, _+_, _*_, _<_}
@@ -11,7 +12,7 @@ use lib.ListN.{length}
 use borrow.Author.Tests.{eq-eqb, ne-eqb}
 use Rattle.tables.specs.Block.{trains, scale, pairs, size, first, second, loadedChoicePlace, loadedEntryPlace, at, loadedChoice, loadedEntry}
 use Rattle.tables.specs.Numbers.{Numbers, numbersCosts, InRange}
-use Rattle.tables.specs.WellFormed.{Study}
+use Rattle.tables.specs.WellFormed.{holdsStudy, Study}
 use Rattle.tables.specs.Plans.{AlikeShapes, IsPlan, shapeOf, loadedCosts, loadedTotal, heldTotal}
 use Rattle.tables.proofs.Plans.{total-cong, alike-back, alike-then, alike-plan, same-shape-alike, same-shape-total}
 use Rattle.tables.proofs.Study.{trains-range, pairs-range, size-range, first-below-trains, second-below-trains, SameShape, same-figure, same-trains, same-scale, same-pairs}
@@ -20,7 +21,7 @@ use Rattle.operations.specs.Add.{added}
 use Rattle.operations.proofs.Loaded.{load-study, load-total, load-trains, load-scale, load-pairs, load-size, load-first, load-second, load-loaded-choice, load-loaded-entry}
 use Rattle.operations.proofs.Added.{add-same-shape, add-choice, add-choice-kept, add-entry-kept, add-loaded-total, add-loaded-total-kept, add-held-total, add-held-total-kept}
 use Rattle.rewriting.proofs.Shape.{Moved, Any}
-use Rattle.rewriting.proofs.Rewritten.{rewrites-shape, rewrites-loaded, rewrites-total}
+use Rattle.rewriting.proofs.Rewritten.{rewrites-shape, rewrites-loaded, rewrites-total, rewrites-holds}
 use Rattle.lines.specs.Layout.{addTrain, addChoice, addPoints}
 use Rattle.claims.specs.Ledger.{Ledger, numbersLedger, addedLedger}
 use Rattle.claims.proofs.Keeps.{Keeps}
@@ -113,15 +114,18 @@ module _ {g : Ledger} {b c : List ℤ} (k : Keeps g b) (s : Study c) (e : SameSh
       second-there : (j : ℕ) → j < pairs c → second b j < trains c
       second-there j q = omega (arith, second-below-trains (k .study) j (omega (arith, same-pairs e)), same-trains e)
 
--- ---- shift and tighten
+-- ---- shift, tighten and round
 
--- a rewriting has the same shape and the same H, and every plan keeps its total: it keeps the ledger
-pub rewritten-keeps : {g : Ledger} {b c : List ℤ} {n : ℕ} → Keeps g b → Study c → Moved Any b n c → Keeps g c
-unfolding IsPlan loadedCosts
-rewritten-keeps {g} {b} {c} k s r =
+-- a rewriting has the same shape and the same H, and every plan keeps its total: where its end is a study, it keeps the ledger
+pub rewritten-keeps : {g : Ledger} {b c : List ℤ} {n : ℕ} → Keeps g b → Moved Any b n c → holdsStudy c ≡ true → Keeps g c
+unfolding loadedCosts
+rewritten-keeps {g} {b} {c} k r held =
     keeps-from k s (rewrites-shape (k .study) r) g refl refl (k .no-constant) (λ i a h q. choice i a h q ∙ k .same .choices-same i a h q) (λ j a d h p q. entry j a d h p q ∙ k .same .entries-same j a d h p q)
     (λ x p. rewrites-total (k .study) r s x p ∙ k .scaled x p ∙ ap (λ (v : ℕ). scale b * v) (sym (same-total x p)))
   where
+    s : Study c
+    s = rewrites-holds (k .study) r held
+
     choice : (i a : ℕ) → i < trains b → a < size b i → loadedChoice c i a ≡ loadedChoice b i a
     choice i a h q =
         let w = size-range (k .study) i h in
@@ -138,8 +142,8 @@ rewritten-keeps {g} {b} {c} k s r =
     same-total : (x : ℕ → ℕ) → IsPlan (shapeOf b) x → loadedTotal c x ≡ loadedTotal b x
     same-total x p =
         same-shape-total (rewrites-shape (k .study) r) (k .study) (loadedCosts c) x
-        ∙ total-cong (shapeOf b) (loadedCosts c) (loadedCosts b) x refl (λ i h. choice i (x i) h (p i h))
-        (λ j h. entry j (x (first b j)) (x (second b j)) h (p (first b j) (first-below-trains (k .study) j h)) (p (second b j) (second-below-trains (k .study) j h)))
+        ∙ total-cong (shapeOf b) (loadedCosts c) (loadedCosts b) x refl (λ i h. choice i (x i) h (p .below i h))
+        (λ j h. entry j (x (first b j)) (x (second b j)) h (p .below (first b j) (first-below-trains (k .study) j h)) (p .below (second b j) (second-below-trains (k .study) j h)))
 
 -- ---- add
 

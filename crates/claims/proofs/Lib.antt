@@ -8,10 +8,12 @@ pub mod Keeps
 pub mod Kept
 pub mod Found
 pub mod SaveClaims
+pub mod RoundClaims
 pub mod Steps
 pub mod After
 pub mod Demand
 pub mod Seen
 pub mod Inputs
 pub mod Saves
+pub mod Rounds
 pub mod Uses

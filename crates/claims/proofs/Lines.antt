@@ -12,7 +12,7 @@ use Rattle.theory.proofs.Range.{not-both}
 use Rattle.refusals.specs.declared.Refusal.{Refusal}
 use Rattle.refusals.specs.Refusals.{refusalNumber}
 use Rattle.tables.specs.Block.{constant}
-use Rattle.tables.specs.Plans.{IsPlan, choicesOf}
+use Rattle.tables.specs.Plans.{Branches, LeastOf, choicesOf}
 use Rattle.tables.proofs.Plans.{plan-cong}
 use Rattle.certificates.specs.declared.certify.Ceiling.{Ceiling}
 use Rattle.certificates.specs.Rival.{Rival, IsRival, ConstantAtMost}
@@ -25,10 +25,10 @@ use Rattle.lines.specs.Layout.{kindOf}
 use Rattle.search.specs.declared.answer.Found.{Found}
 use Rattle.replies.specs.Replies.{refusalReply, figureWidth, flag, boundOf, boundReply, certifyReply, shownCost, shownChoice, searchReply}
 use Rattle.replies.specs.Shown.{kindShown, costShown, planShown, showsPlan}
-use Rattle.replies.proofs.ReadBack.{refusal-number, bound-shown, certify-flag, certify-weighted, certify-full-weight, search-ended, search-cost, search-plan}
+use Rattle.replies.proofs.ReadBack.{refusal-number, constant-shown, bound-shown, certify-flag, certify-weighted, certify-full-weight, search-ended, search-cost, search-plan}
 use Rattle.service.specs.Calls.{exchange}
 use Rattle.claims.specs.Ledger.{Ledger, accepted, byKind, costOf}
-use Rattle.claims.specs.Claims.{PlanOf, DeclinedAs, outside, malformed, scaledCost, BoundClaim, CeilingClaim, SearchClaim, Claim, shownKind, neverOutside, AtCall}
+use Rattle.claims.specs.Claims.{PlanOf, DeclinedAs, outside, malformed, scaledCost, BoundClaim, CeilingClaim, SearchClaim, RoundClaim, Claim, shownKind, neverOutside, AtCall}
 use Rattle.claims.proofs.Accepted.{reply-low}
 
 -- ---- a call, from its line
@@ -60,10 +60,16 @@ empty-shows n d = omega (arith, d .0)
 
 -- ---- what each kind of reply claims
 
--- 81 to 84
+-- 81 to 84, and 88
 pub bound-claim : (g : Ledger) (l : List ℕ) (kind : Kind) (b : List ℤ) → boundOf b < 256 ^ figureWidth → ((x : ℕ → ℕ) → PlanOf g x → boundOf b ≤ costOf g x)
     → BoundClaim g (exchange l (boundReply kind b))
 bound-claim g l kind b h low = record { bound = λ x p. rw (bound-shown kind b h) (low x p) }
+
+-- 88
+pub round-claim : (g : Ledger) (l : List ℕ) (kind : Kind) (b : List ℤ) → constant b < 256 ^ figureWidth → boundOf b < 256 ^ figureWidth
+    → (Branches (g .shape) → (constant b ≡ g .scale * boundOf b) × LeastOf (g .shape) (costOf g) (boundOf b)) → BoundClaim g (exchange l (boundReply kind b))
+    → RoundClaim g (exchange l (boundReply kind b))
+round-claim g l kind b c h settled bound = record { bound = bound; settled = λ one. rw (constant-shown kind b c, bound-shown kind b h) (settled one) }
 
 -- 85
 pub ceiling-claim : (g : Ledger) (b : List ℤ) (l : List ℕ) (fullWeight : ℕ) (c : Ceiling) → 0 < fullWeight → fullWeight < 256 ^ 3 → c .weighted < 256 ^ 8
@@ -103,8 +109,8 @@ module _ (g : Ledger) (l : List ℕ) (n : ℕ) (f : Found) (r : Right g n f) whe
     known-shows = rw (cost-known, ne-eqb (f .cost .0) (256 ^ figureWidth - 1) (λ q. omega (arith, r .low e)))
 
     known-plan : PlanOf g (planShown (searchReply n f))
-    unfolding IsPlan
-    known-plan i h = let q : i < n = omega (arith, r .trains) in omega (arith, plan-known i q, r .plan e .0 i h)
+    known-plan =
+        record { below = λ i h. let q : i < n = omega (arith, r .trains) in omega (arith, plan-known i q, r .plan e .0 .below i h) }
 
     known-cost : costShown (searchReply n f) ≡ costOf g (planShown (searchReply n f))
     known-cost =

@@ -5,8 +5,7 @@ use Prim.Native.Nat.{ℕ, _<_}
 use native.Mathlib.Omega.{arith}
 use lib.IntN.{ℤ}
 use Rattle.tables.specs.Block.{trains, pairs, size, first, second, loadedChoicePlace, loadedEntryPlace}
-use Rattle.tables.specs.Numbers.{numbersShape, numbersCosts}
-use Rattle.tables.specs.Counts.{rowsOf, columnsOf}
+use Rattle.tables.specs.Numbers.{numbersCosts}
 use Rattle.tables.proofs.Plans.{alike-then}
 use Rattle.tables.proofs.Study.{first-below-trains, second-below-trains}
 use Rattle.operations.specs.Saved.{savedNumbers}

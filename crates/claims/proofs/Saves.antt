@@ -1,5 +1,5 @@
 -- A save straight after an accepted load gives that line back, and a saved line loads the same study on every well-formed block: what `saving` says of the texts, said of calls.
-use mathlib.Core.Path.{_≡_, refl, ap, _∙_}
+use mathlib.Core.Path.{_≡_, refl, _∙_}
 use mathlib.Core.Bool.{true, false}
 use mathlib.Core.List.{List}
 use Prim.Native.Nat.{ℕ, _≤_}
@@ -15,21 +15,17 @@ use Rattle.operations.proofs.Loaded.{load-study}
 use Rattle.frames.specs.Digits.{digit, digitOf, byteAt}
 use Rattle.frames.specs.Fields.{field, fieldDigits}
 use Rattle.frames.specs.Frames.{allDigits, framed}
-use Rattle.lines.specs.declared.kind.Kind.{Kind}
 use Rattle.lines.specs.declared.kind.Kind.the-variants as kind
-use Rattle.lines.specs.declared.request.Request.{Request}
 use Rattle.lines.specs.declared.request.Request.the-variants.{Save}
 use Rattle.lines.specs.declared.request.Line.the-variants.{Asked}
-use Rattle.lines.specs.Kinds.{newKind, requestKind}
+use Rattle.lines.specs.Kinds.{newKind}
 use Rattle.lines.proofs.KindNumbers.{number-kind}
 use Rattle.lines.specs.Text.{loadDigits}
 use Rattle.kinds.specs.Load.{loadRequest}
-use Rattle.kinds.specs.Lines.{kindRequest}
 use Rattle.decoding.specs.Numbers.{numbersOf}
 use Rattle.decoding.proofs.LoadRange.{load-in-range}
 use Rattle.reader.specs.Reading.{studyLine, kindLine, lineOf}
 use Rattle.reader.proofs.LineAccepted.{line-makes}
-use Rattle.reader.proofs.LineKind.{line-known}
 use Rattle.saving.proofs.Together.{save-framed, save-kind, save-again, save-study, save-as-loaded}
 use Rattle.saving.proofs.SavedLines.{save-read, save-after-line}
 use Rattle.replies.specs.Replies.{boundReply}
@@ -38,10 +34,9 @@ use Rattle.requests.proofs.LineCases.{asked-line, fixed-line}
 use Rattle.service.specs.Answer.{minBuffer, answer}
 use Rattle.service.proofs.AnswerCases.{fixed-fit}
 use Rattle.service.proofs.Calls.{answered-line}
-use Rattle.claims.specs.Ledger.{accepted}
 use Rattle.claims.specs.Saves.{saveLine, SavesAs, SaveAfterLoad, LoadAfterSave}
 use Rattle.claims.proofs.Accepted.{bound-accepted}
-use Rattle.claims.proofs.Shifts.{accepted-asks}
+use Rattle.claims.proofs.Shifts.{accepted-asks, asking-kind}
 
 -- ---- a save
 
@@ -72,10 +67,7 @@ load-answer l b d h right e = rw (answered-line l b d h right, fixed-line l b (l
 pub save-after-load : SaveAfterLoad
 save-after-load l b d known y =
     let w = accepted-asks l b d y in
-    let own = line-known l b (w .request) (w .asks .asked) in
-    let same : requestKind (w .request) ≡ kind.Load = cc in
-    let made : w .request ≡ loadRequest l = line-makes l b (w .request) (w .asks .asked) .1 .0 ∙ ap (λ (j : Kind). kindRequest j l b) same in
-    let asked : lineOf l b ≡ Asked (loadRequest l) = w .asks .asked ∙ ap Asked made in
+    let asked : lineOf l b ≡ Asked (loadRequest l) = asking-kind kind.Load w known .asked in
     rw (load-answer l b d (w .large) (w .asks .right) asked)
     (saves-as (load-study (load-in-range l (line-makes l b (loadRequest l) asked .1 .1))) (save-after-line l b _ asked))
 

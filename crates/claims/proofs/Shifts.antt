@@ -67,6 +67,13 @@ accepted-asks l b buffer =
     (λ q a f y. record { large = h; request = q; asks = a })
     (λ q a f y. absurd (not-both y empty-refused)))
 
+-- of a line of kind k it is the one of that kind
+pub asking-kind : (k : Kind) {l : List ℕ} {b : List ℤ} {buffer : List ℕ} (w : Asking l b buffer) → newKind (kindOf l) ≡ Known k → Asks l b (kindRequest k l b) (length buffer)
+asking-kind k {l} {b} {buffer} w known =
+    let own = line-known l b (w .request) (w .asks .asked) in
+    let same : requestKind (w .request) ≡ k = cc in
+    subst (λ (r : Request). Asks l b r (length buffer)) (line-makes l b (w .request) (w .asks .asked) .1 .0 ∙ ap (λ (j : Kind). kindRequest j l b) same) (w .asks)
+
 -- ---- a line that asks for a shift
 
 module _ (l : List ℕ) (b : List ℤ) (buffer : List ℕ) (h : minBuffer ≤ length buffer) (q : declared-shift.Shift) (a : Asks l b (Shift q) (length buffer)) where
@@ -121,11 +128,7 @@ pub shift-line : (l : List ℕ) (b : List ℤ) (buffer : List ℕ) → kindOf l 
     → SameEnds b (endsOf (answer l b buffer .block)) (lineEnds l b)
 shift-line l b buffer k y =
     let w = accepted-asks l b buffer y in
-    let known : newKind (kindOf l) ≡ Known kind.Shift = ap newKind k ∙ number-kind kind.Shift in
-    let own = line-known l b (w .request) (w .asks .asked) in
-    let same : requestKind (w .request) ≡ kind.Shift = cc in
-    let made = line-makes l b (w .request) (w .asks .asked) .1 .0 ∙ ap (λ (j : Kind). kindRequest j l b) same in
-    asked-ends l b buffer (w .large) _ (subst (λ (r : Request). Asks l b r (length buffer)) made (w .asks)) y
+    asked-ends l b buffer (w .large) _ (asking-kind kind.Shift w (ap newKind k ∙ number-kind kind.Shift)) y
 
 -- the three equations, each by itself
 module _ (l : List ℕ) (b : List ℤ) (buffer : List ℕ) (k : kindOf l ≡ kindNumber kind.Shift) (y : accepted (answer l b buffer .reply) ≡ true) where

@@ -26,11 +26,11 @@ use Rattle.tables.proofs.Study.{study-well-formed, trains-range, scale-range, p
 use Rattle.operations.specs.Add.{added, addOutcome}
 use Rattle.operations.specs.Load.{loadedBlock}
 use Rattle.operations.proofs.Added.{add-study, add-within, add-same-shape, add-choice, add-choice-kept, add-entry-kept, cost-above as above-cost}
-use Rattle.rewriting.proofs.Rewritten.{rewrites-holds}
 use Rattle.shift.specs.Shift.{shifted}
 use Rattle.shift.proofs.Ends.{shift-rewrites}
 use Rattle.tighten.specs.Tighten.{tightened}
 use Rattle.tighten.proofs.Ends.{tighten-rewrites, tighten-within}
+use Rattle.directional.specs.Directional.{directed}
 use Rattle.certificates.specs.declared.certify.Certificate.{Certificate}
 use Rattle.certificates.specs.declared.certify.Certificate.the-variants.{Unbalanced, Balanced}
 use Rattle.certificates.specs.Certify.{weightsOf, certificate}
@@ -40,7 +40,7 @@ use Rattle.lines.specs.declared.kind.Kind.{Kind}
 use Rattle.lines.specs.declared.kind.Kind.the-variants as kind
 use Rattle.lines.specs.declared.kind.NewKind.the-variants.{Known}
 use Rattle.lines.specs.declared.request.Request.{Request}
-use Rattle.lines.specs.declared.request.Request.the-variants.{Load, Add, Shift, Tighten, Certify, Search, Save}
+use Rattle.lines.specs.declared.request.Request.the-variants.{Load, Add, Shift, Tighten, Certify, Search, Save, Round}
 use Rattle.lines.specs.declared.request.Line.the-variants.{Refused}
 use Rattle.lines.specs.Kinds.{newKind, requestKind}
 use Rattle.lines.specs.Layout.{kindOf, moveWidth, weightWidth, addTrain, addChoice, addPoints, certifyFullWeight, searchBudget, weightField, liftField, moveField}
@@ -70,9 +70,10 @@ use Rattle.claims.proofs.ByKind.{by-kind}
 use Rattle.claims.proofs.Found.{ceiling-holds, known-plan, known-low, ended-least}
 use Rattle.claims.proofs.Keeps.{Keeps, bound-low, total-most, entry-most, scaled-most, held-total-most}
 use Rattle.claims.proofs.Kept.{load-keeps, rewritten-keeps, add-scaled, add-keeps}
-use Rattle.claims.proofs.Lines.{at-refused, at-accepted, other-refusal, empty-shows, bound-claim, ceiling-claim, Right, search-claim}
+use Rattle.claims.proofs.Lines.{at-refused, at-accepted, other-refusal, empty-shows, bound-claim, round-claim, ceiling-claim, Right, search-claim}
 use Rattle.claims.proofs.Accepted.{empty-refused, refusal-refused, kind-accepted}
 use Rattle.claims.proofs.SaveClaims.{save-claim}
+use Rattle.claims.proofs.RoundClaims.{round-done, round-keeps, round-settled}
 
 -- ---- what the ledger makes of a line
 
@@ -104,7 +105,7 @@ good-kind g b l k a known shown keeps claim =
 
 -- ---- declined calls
 
--- a refusal that no claim excludes: not 16, and to an addition or a tightening not 12
+-- a refusal that no claim excludes: not 16, and to an addition, a tightening or a round not 12
 pub record Allowed (l : List ℕ) (r : Refusal) : Type 0 where
   pub not-outside : byKind neverOutside false l ≡ true → refusalNumber r ≡ outside → ⊥
   pub not-malformed : refusalNumber r ≡ malformed → ⊥
@@ -162,20 +163,23 @@ module _ {g : Ledger} {b : List ℤ} (k : Keeps g b) (l : List ℕ) where
 
       go : (t : Bool) → holdsStudy (shifted lifts moves b) ≡ t → Good g b l (operated kind.Shift (unless t PartsOutside) b (shifted lifts moves b))
       go true h =
-          let c = shifted lifts moves b in
-          let v = shift-rewrites (k .study) lifts moves in
-          good-bound g b l kind.Shift c e refl (λ d. d) (rewritten-keeps k (rewrites-holds (k .study) v h) v)
+          good-bound g b l kind.Shift (shifted lifts moves b) e refl (λ d. d) (rewritten-keeps k (shift-rewrites (k .study) lifts moves) h)
       go false h = good-declined k l PartsOutside (record { not-outside = λ w _. not-both w (by-kind neverOutside false l e); not-malformed = λ q. omega arith })
 
   -- a tightening is always done
   good-tighten : newKind (kindOf l) ≡ Known kind.Tighten → Good g b l (requested Tighten l b)
   unfolding requested
   good-tighten e =
-      let c = tightened b in
       let h = tighten-within (k .study) (held-total-most k) in
-      let v = tighten-rewrites (k .study) in
-      rw h
-      (good-bound g b l kind.Tighten c e refl (λ d. d) (rewritten-keeps k (rewrites-holds (k .study) v h) v))
+      rw h (good-bound g b l kind.Tighten (tightened b) e refl (λ d. d) (rewritten-keeps k (tighten-rewrites (k .study)) h))
+
+  -- and so is a round
+  good-round : newKind (kindOf l) ≡ Known kind.Round → Good g b l (requested Round l b)
+  unfolding requested
+  good-round e =
+      let keeps = round-keeps k in
+      let s = keeps .study in
+      rw (round-done k) (good-bound g b l kind.Round (directed b) e refl (round-claim g l kind.Round (directed b) (omega (arith, constant-range s)) (bound-fits s) (round-settled k)) keeps)
 
   -- ---- an addition
 
@@ -193,10 +197,10 @@ module _ {g : Ledger} {b : List ℤ} (k : Keeps g b) (l : List ℕ) where
         (λ n. omega (arith, add-choice-kept (k .study) (addTrain l) (addChoice l) (addPoints l) there in-size j c h q (λ w. absurd (n w)), loaded-choice-range (k .study) j c h q .high))
 
     sum-loaded : loadedChoice b (addTrain l) (addChoice l) + addPoints l ≤ maxCost → (x : ℕ → ℕ) → IsPlan (shapeOf b) x → loadedTotal sum-block x ≤ (maxTrains + maxPairs) * maxCost
-    unfolding loadedCosts IsPlan
+    unfolding loadedCosts
     sum-loaded low x p =
         rw (same-shape-total (add-same-shape (k .study) (addTrain l) (addChoice l) (addPoints l) there in-size) (k .study) (loadedCosts sum-block) x)
-        (total-most (shapeOf b) (loadedCosts sum-block) x (trains-range (k .study) .1) (pairs-range (k .study)) refl (λ i h. sum-choice low i (x i) h (p i h))
+        (total-most (shapeOf b) (loadedCosts sum-block) x (trains-range (k .study) .1) (pairs-range (k .study)) refl (λ i h. sum-choice low i (x i) h (p .below i h))
         (λ j h. omega (arith, add-entry-kept (k .study) (addTrain l) (addChoice l) (addPoints l) there in-size j (x (first b j)) (x (second b j)), entry-most (k .study) x p j h)))
 
     -- 12 is never the answer: within the highest cost the addition is done
@@ -275,6 +279,7 @@ module _ {g : Ledger} {b : List ℤ} (k : Keeps g b) (l : List ℕ) where
   good-request (Certify q) m e = as-asked (Certify q) (certifyRequest l (weightCount (shapeOf b))) (m .0) (good-certify e (certify-fine l (weightCount (shapeOf b)) (m .1) .fullWeight))
   good-request (Search q) m e = as-asked (Search q) (searchRequest l) (m .0) (good-search e)
   good-request Save m e = good-save e
+  good-request Round m e = good-round e
 
   -- 17, at once or for a reply that does not fit
   good-empty : Good g b l (answered b [])

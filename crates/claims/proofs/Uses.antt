@@ -1,4 +1,4 @@
--- What follows from each part of demand 3's statement (specs/Claims.antt), on document 01's J and its session: what the replies there say, and wrong replies that the statement excludes. Each law
+-- What follows from each part of demand 3's statement (specs/Claims.antt), on document 01's J and its session, and for a round on a branch line: what the replies there say, and wrong replies that the statement excludes. Each law
 -- has the statement as its premise, not the service, so a part that said less would leave its law here without a proof.
 use mathlib.Core.Path.{_≡_, refl, subst}
 use mathlib.Core.Bool.{cond, _&&_}
@@ -17,13 +17,13 @@ use Rattle.refusals.specs.declared.Refusal.the-variants.{Fields}
 use Rattle.refusals.specs.Verdicts.{firstOf}
 use Rattle.tables.specs.Block.{trains, scale, pairs, constant, size, first, second, loadedChoice, loadedEntry}
 use Rattle.tables.specs.WellFormed.{freshBlock}
-use Rattle.tables.specs.Plans.{IsPlan, choiceTotal, pairTotal, total, heldTotal}
+use Rattle.tables.specs.Plans.{Branches, LeastOf, choiceTotal, pairTotal, total, heldTotal}
 use Rattle.certificates.specs.Rival.{asFraction, plus, times, sumOf, Same, AtMost, Rival, rivalTotal, IsRival, ConstantAtMost}
 use Rattle.frames.specs.Digits.{digit, byteAt}
 use Rattle.frames.specs.Fields.{field}
 use Rattle.frames.specs.Frames.{allDigits, framed}
 use Rattle.frames.specs.Text.{codes}
-use Rattle.lines.specs.declared.kind.Kind.the-variants.{Load, Add, Shift, Tighten, Certify, Search, Save}
+use Rattle.lines.specs.declared.kind.Kind.the-variants.{Load, Add, Shift, Tighten, Certify, Search, Save, Round}
 use Rattle.lines.specs.declared.kind.NewKind.the-variants.{Known, NoSuch}
 use Rattle.lines.specs.declared.request.Line.the-variants.{Asked, Refused}
 use Rattle.lines.specs.Kinds.{newKind}
@@ -62,15 +62,45 @@ plan : ℕ → ℕ → ℕ → ℕ
 plan a c i = cond (eqb i 0) a c
 
 plan-01 : PlanOf j (plan 0 1)
-unfolding told load j plan IsPlan
-plan-01 zero h = omega arith
-plan-01 (suc zero) h = omega arith
-plan-01 (suc (suc i)) h = let q : suc (suc i) < 2 = h in absurd (omega arith)
+unfolding told load j plan
+plan-01 = record { below = there }
+  where
+    there : (i : ℕ) → i < j .shape .trains → plan 0 1 i < j .shape .size i
+    there zero h = omega arith
+    there (suc zero) h = omega arith
+    there (suc (suc i)) h = let q : suc (suc i) < 2 = h in absurd (omega arith)
 
 -- a bound of 3 is above the cost of plan 01
 too-high : {e : Exchange} → BoundClaim j e → boundShown (e .reply) ≡ 3 → ⊥
 unfolding told load j plan
 too-high c e = let h : _ ≤ 2 = c .bound (plan 0 1) plan-01 in omega (arith, e)
+
+-- a branch line of two trains, two parts a point, at which tightening finds nothing: the plans 00, 01, 10 and 11 cost 1, 2, 1 and 1
+unfoldable branchLoad : String
+branchLoad = "010200020202000001000000000000000001010001000000000000000001000000"
+
+unfoldable branch : Ledger
+unfolding branchLoad codes
+branch = numbersLedger (numbersOf (codes branchLoad))
+
+branch-branches : Branches (branch .shape)
+unfolding told branchLoad branch
+branch-branches = record { one = λ k l p q e. let first : k < 1 = p in let second : l < 1 = q in omega arith }
+
+-- no plan costs nothing
+branch-cost : (a c : ℕ) → a < 2 → c < 2 → 0 < costOf branch (plan a c)
+unfolding told branchLoad branch plan
+branch-cost zero zero h k = omega arith
+branch-cost zero (suc zero) h k = omega arith
+branch-cost (suc zero) zero h k = omega arith
+branch-cost (suc zero) (suc zero) h k = omega arith
+branch-cost (suc (suc a)) c h k = absurd (omega arith)
+branch-cost zero (suc (suc c)) h k = absurd (omega arith)
+branch-cost (suc zero) (suc (suc c)) h k = absurd (omega arith)
+
+branch-above : (x : ℕ → ℕ) → PlanOf branch x → 0 < costOf branch x
+unfolding told branchLoad branch plan
+branch-above x p = branch-cost (x 0) (x 1) (p .below 0 (omega arith)) (p .below 1 (omega arith))
 
 -- J tightened is a rival with a constant of 2, of which choice 0 of train 1 costs 1 and all else nothing
 rival : Rival
@@ -88,8 +118,8 @@ same-cost zero (suc (suc c)) h k = absurd (omega arith)
 same-cost (suc zero) (suc (suc c)) h k = absurd (omega arith)
 
 is-rival : IsRival (j .shape) (scaledCost j) rival
-unfolding told load j plan rival IsRival IsPlan Same rivalTotal sumOf plus asFraction
-is-rival x p = same-cost (x 0) (x 1) (p 0 (omega arith)) (p 1 (omega arith))
+unfolding told load j plan rival IsRival Same rivalTotal sumOf plus asFraction
+is-rival x p = same-cost (x 0) (x 1) (p .below 0 (omega arith)) (p .below 1 (omega arith))
 
 -- ---- wrong replies to lines on J, whatever block a call had
 
@@ -136,6 +166,10 @@ module _ {b : List ℤ} where
   unfolding told
   high-tightened a = too-high (line-claim a Tighten refl) refl
 
+  high-round : AtLine j b (told "08" "88000000000000000000000003") → ⊥
+  unfolding told
+  high-round a = too-high (line-claim a Round refl .bound) refl
+
   -- W of 0
   no-full-weight : AtLine j b (told "05" "85010000000000000002000000") → ⊥
   unfolding told
@@ -153,8 +187,8 @@ module _ {b : List ℤ} where
 
   -- choice 2 of train 1
   absent-choice : AtLine j b (told "06" "8600000000030000000000020002") → ⊥
-  unfolding told load j IsPlan
-  absent-choice a = let h : 2 < 2 = line-claim a Search refl .shown refl .0 1 (omega arith) in omega arith
+  unfolding told load j
+  absent-choice a = let h : 2 < 2 = line-claim a Search refl .shown refl .0 .below 1 (omega arith) in omega arith
 
   -- plan 01 at a cost of 3
   other-cost : AtLine j b (told "06" "8600000000030000000000030001") → ⊥
@@ -166,6 +200,27 @@ module _ {b : List ℤ} where
   unfolding told load j plan
   worse-plan a = let h : 3 ≤ 2 = line-claim a Search refl .least refl (plan 0 1) plan-01 in omega arith
 
+-- ---- replies to a round of the branch line
+
+module _ {b : List ℤ} where
+  -- a constant and a bound of 2 parts and 1 point: a plan costs 1, and none less
+  settled-round : AtLine branch b (told "08" "88000000000002000000000001") → LeastOf (branch .shape) (costOf branch) 1
+  unfolding told branch
+  settled-round a = line-claim a Round refl .settled branch-branches .1
+
+  -- a bound of 0, as a tightening leaves it: no plan costs nothing
+  low-round : AtLine branch b (told "08" "88000000000000000000000000") → ⊥
+  unfolding told branch
+  low-round a =
+      let l = line-claim a Round refl .settled branch-branches .1 in
+      let h : costOf branch (l .plan) ≡ 0 = l .is in
+      omega (arith, h, branch-above (l .plan) (l .is-plan))
+
+  -- a constant of 1 part beside a bound of 1 point
+  low-constant : AtLine branch b (told "08" "88000000000001000000000001") → ⊥
+  unfolding told branchLoad branch
+  low-constant a = let h : _≡_ {A = ℕ} 1 2 = line-claim a Round refl .settled branch-branches .0 in omega arith
+
 module _ (g : Ledger) (b : List ℤ) where
   -- E = W × c0, but 00; and 01, but E above it
   not-reached : constant b ≡ 2 → AtCall g b (told "05" "85000000000000000002000001") → ⊥
@@ -176,7 +231,7 @@ module _ (g : Ledger) (b : List ℤ) where
   unfolding told
   reached-above e a = let h : _≡_ {A = ℕ} 1 0 = rw e at (line-claim (a .line refl) Certify refl .reached) in omega arith
 
-  -- 12 to an addition and to a tightening, 16 to any line
+  -- 12 to an addition, to a tightening and to a round, 16 to any line
   add-outside : AtCall g b (told "020000000001" "FF0C") → ⊥
   unfolding told DeclinedAs
   add-outside a = a .never-outside refl (refl, refl)
@@ -184,6 +239,10 @@ module _ (g : Ledger) (b : List ℤ) where
   tighten-outside : AtCall g b (told "04" "FF0C") → ⊥
   unfolding told DeclinedAs
   tighten-outside a = a .never-outside refl (refl, refl)
+
+  round-outside : AtCall g b (told "08" "FF0C") → ⊥
+  unfolding told DeclinedAs
+  round-outside a = a .never-outside refl (refl, refl)
 
   no-malformed : (l : List ℕ) → AtCall g b (exchange l (told "" "FF10" .reply)) → ⊥
   unfolding told DeclinedAs

@@ -8,11 +8,11 @@ use lib.Dec.{eqb}
 use lib.IntN.{ℤ}
 use Rattle.tables.specs.Block.{trains, scale, pairs, constant, size, first, second, loadedChoice, loadedEntry}
 use Rattle.tables.specs.WellFormed.{wellFormed, freshBlock}
-use Rattle.tables.specs.Plans.{AlikeShapes, IsPlan, shapeOf, heldTotal}
+use Rattle.tables.specs.Plans.{AlikeShapes, IsPlan, Branches, LeastOf, shapeOf, heldTotal}
 use Rattle.tables.specs.Counts.{rowsOf, columnsOf}
 use Rattle.certificates.specs.Rival.{Rival, IsRival, ConstantAtMost}
 use Rattle.lines.specs.declared.kind.Kind.{Kind}
-use Rattle.lines.specs.declared.kind.Kind.the-variants.{Load, Add, Shift, Tighten, Certify, Search, Save}
+use Rattle.lines.specs.declared.kind.Kind.the-variants.{Load, Add, Shift, Tighten, Certify, Search, Save, Round}
 use Rattle.lines.specs.declared.kind.NewKind.the-variants.{Known}
 use Rattle.lines.specs.declared.request.Line.the-variants.{Asked}
 use Rattle.lines.specs.Kinds.{kindNumber, newKind}
@@ -21,7 +21,7 @@ use Rattle.kinds.specs.Load.{loadRequest}
 use Rattle.decoding.specs.Numbers.{numbersOf}
 use Rattle.reader.specs.Reading.{lineOf}
 use Rattle.replies.specs.Replies.{boundOf, refusalByte, replyKind, flag}
-use Rattle.replies.specs.Shown.{kindShown, numberShown, boundShown, flagShown, weightedShown, fullWeightShown, saysEnded, costShown, planShown, showsPlan}
+use Rattle.replies.specs.Shown.{kindShown, numberShown, constantShown, boundShown, flagShown, weightedShown, fullWeightShown, saysEnded, costShown, planShown, showsPlan}
 use Rattle.service.specs.Calls.{Call, Exchange, lastBlock, blocks, exchanges}
 use Rattle.claims.specs.Ledger.{Ledger, accepted, numbersLedger, byKind, fed, ledgerOf, emptyLedger, costOf, hasLoad}
 
@@ -90,6 +90,14 @@ pub record SaveClaim (g : Ledger) (e : Exchange) : Type 0 where
   -- read as a load line, its reply gives the ledger's n, s, sizes, pairs and costs at that line (`other-save`)
   pub gives : SameLedger (numbersLedger (numbersOf (e .reply))) g
 
+-- document 02, change 4: 'The reply is 88 with constant and bound'
+pub record RoundClaim (g : Ledger) (e : Exchange) : Type 0 where
+  -- 'The lists of demand 3 now include this line': its bound is one 'that a reply shows beside c0' (`high-round`)
+  pub bound : BoundClaim g e
+  -- 'Where every train has at most one partner of lower number, the constant afterwards equals the least total of any plan', s × the least cost: the bound is the least cost (`low-constant`, `low-round`,
+  -- `settled-round`)
+  pub settled : Branches (g .shape) → (constantShown (e .reply) ≡ g .scale * boundShown (e .reply)) × LeastOf (g .shape) (costOf g) (boundShown (e .reply))
+
 -- each kind's own (`high-bound`, `high-added`, `high-shifted`, `high-tightened`)
 abbrev pub Claim : Kind → Ledger → List ℤ → Exchange → Type 0
 Claim Load g b e = BoundClaim g e
@@ -99,8 +107,9 @@ Claim Tighten g b e = BoundClaim g e
 Claim Certify g b e = CeilingClaim g b e
 Claim Search g b e = SearchClaim g e
 Claim Save g b e = SaveClaim g e
+Claim Round g b e = RoundClaim g e
 
--- 'Kinds 01 to 04: 81 to 84', 'Certify: 85', 'Search: 86'; a save's reply, a load line, begins with 01
+-- 'Kinds 01 to 04: 81 to 84', 'Certify: 85', 'Search: 86'; of a round 88; a save's reply, a load line, begins with 01
 abbrev pub shownKind : Kind → ℕ
 shownKind Load = replyKind Load
 shownKind Add = replyKind Add
@@ -109,6 +118,7 @@ shownKind Tighten = replyKind Tighten
 shownKind Certify = replyKind Certify
 shownKind Search = replyKind Search
 shownKind Save = kindNumber Load
+shownKind Round = replyKind Round
 
 pub record AtLine (g : Ledger) (b : List ℤ) (e : Exchange) : Type 0 where
   -- 'The first byte is the kind': an accepted line has one (`no-kind`)
@@ -121,7 +131,7 @@ pub record AtLine (g : Ledger) (b : List ℤ) (e : Exchange) : Type 0 where
 
 -- ---- what is claimed of one call, which had the block b
 
--- 'add and tighten never give 12'
+-- 'add and tighten never give 12', and no round does
 abbrev pub neverOutside : Kind → Bool
 neverOutside Load = false
 neverOutside Add = true
@@ -130,11 +140,12 @@ neverOutside Tighten = true
 neverOutside Certify = false
 neverOutside Search = false
 neverOutside Save = false
+neverOutside Round = true
 
 pub record AtCall (g : Ledger) (b : List ℤ) (e : Exchange) : Type 0 where
   -- 'A line is accepted if its reply isn't empty and doesn't begin with FF'
   pub line : accepted (e .reply) ≡ true → AtLine g b e
-  -- 'From fresh by these lines only, add and tighten never give 12' (`add-outside`, `tighten-outside`)
+  -- 'From fresh by these lines only' (`add-outside`, `tighten-outside`, `round-outside`)
   pub never-outside : byKind neverOutside false (e .line) ≡ true → DeclinedAs outside (e .reply) → ⊥
   -- no line of a list gives 16: each has 'the block that the call before left', 'the first has a fresh block' (`no-malformed`)
   pub never-malformed : DeclinedAs malformed (e .reply) → ⊥

@@ -7,7 +7,7 @@ use lib.ListN.{length}
 use Rattle.tables.specs.Numbers.{Numbers, numbers, numbersShape, numbersCosts}
 use Rattle.tables.specs.Plans.{Shape, Costs, total}
 use Rattle.lines.specs.declared.kind.Kind.{Kind}
-use Rattle.lines.specs.declared.kind.Kind.the-variants.{Load, Add, Shift, Tighten, Certify, Search, Save}
+use Rattle.lines.specs.declared.kind.Kind.the-variants.{Load, Add, Shift, Tighten, Certify, Search, Save, Round}
 use Rattle.lines.specs.declared.kind.NewKind.{NewKind}
 use Rattle.lines.specs.declared.kind.NewKind.the-variants.{Known, NoSuch}
 use Rattle.lines.specs.Kinds.{newKind}
@@ -61,7 +61,7 @@ abbrev pub byKind : {A : Type 0} → (Kind → A) → A → List ℕ → A
 byKind f other l = ifKnown f other (newKind (kindOf l))
 
 -- what the ledger becomes by an accepted line of each kind. 'Accepted load: n, s, sizes, pairs and costs in points become those of the line'; 'Accepted add: the cost of the named choice grows by
--- the line's points'; 'Every other accepted line ..: nothing changes'
+-- the line's points'; 'Every other accepted line ..: nothing changes'; document 02, of a round: 'an accepted one changes nothing in the ledger'
 abbrev pub changed : Kind → List ℕ → Ledger → Ledger
 changed Load l g = numbersLedger (numbersOf l)
 changed Add l g = addedLedger l g
@@ -70,6 +70,7 @@ changed Tighten l g = g
 changed Certify l g = g
 changed Search l g = g
 changed Save l g = g
+changed Round l g = g
 
 -- 'a list with an accepted load': the kinds that load
 abbrev pub loads : Kind → Bool
@@ -80,6 +81,7 @@ loads Tighten = false
 loads Certify = false
 loads Search = false
 loads Save = false
+loads Round = false
 
 -- ---- lists of lines with their replies
 

@@ -13,14 +13,14 @@ use Rattle.frames.specs.Digits.{bytes}
 use Rattle.lines.specs.declared.kind.Kind.{Kind}
 use Rattle.lines.specs.declared.kind.Kind.the-variants as kind
 use Rattle.lines.specs.declared.request.Request.{Request}
-use Rattle.lines.specs.declared.request.Request.the-variants.{Add, Shift, Tighten, Certify, Search, Save}
+use Rattle.lines.specs.declared.request.Request.the-variants.{Add, Shift, Tighten, Certify, Search, Save, Round}
 use Rattle.lines.specs.declared.request.Line.{Line}
 use Rattle.lines.specs.declared.request.Line.the-variants.{Asked, Refused}
 use Rattle.lines.specs.Layout.{kindWidth, below, addTrainField, addTrain, addChoiceField, addChoice, pointsField, addPoints, liftField, moveField, fullWeightField, certifyFullWeight, weightField, budgetField, searchBudget}
 use Rattle.lines.specs.Verdicts.{fieldVerdict, endVerdict, lastVerdict, runsVerdict, fieldRun}
 use Rattle.kinds.specs.Load.{loadVerdict, loadRequest}
 
--- a kind without fields: '04 tighten: no fields', and 07 save
+-- a kind without fields: '04 tighten: no fields', 07 save and 08, a directional round
 abbrev pub bareVerdict : List ℕ → Verdict
 bareVerdict l = endVerdict (bytes l) kindWidth
 
@@ -68,6 +68,7 @@ kindVerdict kind.Tighten l b = bareVerdict l
 kindVerdict kind.Certify l b = certifyVerdict l (weightCount (shapeOf b))
 kindVerdict kind.Search l b = searchVerdict l
 kindVerdict kind.Save l b = bareVerdict l
+kindVerdict kind.Round l b = bareVerdict l
 
 abbrev pub kindRequest : Kind → List ℕ → List ℤ → Request
 kindRequest kind.Load l b = loadRequest l
@@ -77,6 +78,7 @@ kindRequest kind.Tighten l b = Tighten
 kindRequest kind.Certify l b = certifyRequest l (weightCount (shapeOf b))
 kindRequest kind.Search l b = searchRequest l
 kindRequest kind.Save l b = Save
+kindRequest kind.Round l b = Round
 
 abbrev pub fieldsLine : Kind → List ℕ → List ℤ → Line
 fieldsLine k l b = concluded (kindVerdict k l b) (kindRequest k l b)

@@ -29,5 +29,6 @@ pub fn read_fields(line: &[u8], bytes: usize, kind: Kind, block: &[i64]) -> Line
         Kind::Certify => certify::read_certify(line, bytes, block),
         Kind::Search => search::read_search(line, bytes),
         Kind::Save => bare::read_bare(line, bytes, Request::Save),
+        Kind::Round => bare::read_bare(line, bytes, Request::Round),
     }
 }

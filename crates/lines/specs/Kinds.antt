@@ -7,9 +7,9 @@ use Rattle.lines.specs.declared.kind.Kind.the-variants as kind
 use Rattle.lines.specs.declared.kind.NewKind.{NewKind}
 use Rattle.lines.specs.declared.kind.NewKind.the-variants.{Known, NoSuch}
 use Rattle.lines.specs.declared.request.Request.{Request}
-use Rattle.lines.specs.declared.request.Request.the-variants.{Load, Add, Shift, Tighten, Certify, Search, Save}
+use Rattle.lines.specs.declared.request.Request.the-variants.{Load, Add, Shift, Tighten, Certify, Search, Save, Round}
 
--- '01 load', '02 add', '03 shift', '04 tighten', '05 certify', '06 search'; document 02: 'Kind 07', a save
+-- '01 load', '02 add', '03 shift', '04 tighten', '05 certify', '06 search'; document 02: 'Kind 07', a save, 'Kind 08', a directional round
 abbrev pub kindNumber : Kind → ℕ
 kindNumber kind.Load = 1
 kindNumber kind.Add = 2
@@ -18,6 +18,7 @@ kindNumber kind.Tighten = 4
 kindNumber kind.Certify = 5
 kindNumber kind.Search = 6
 kindNumber kind.Save = 7
+kindNumber kind.Round = 8
 
 -- this kind where the number is its own
 abbrev pub kindIf : Kind → ℕ → NewKind → NewKind
@@ -32,9 +33,10 @@ newKind n =
     (kindIf kind.Tighten n
     (kindIf kind.Certify n
     (kindIf kind.Search n
-    (kindIf kind.Save n NoSuch))))))
+    (kindIf kind.Save n
+    (kindIf kind.Round n NoSuch)))))))
 
--- 4: 'kinds 02-06 on a fresh block', and 07
+-- 4: 'kinds 02-06 on a fresh block', 07 and 08
 abbrev pub needsStudy : Kind → Bool
 needsStudy kind.Load = false
 needsStudy kind.Add = true
@@ -43,6 +45,7 @@ needsStudy kind.Tighten = true
 needsStudy kind.Certify = true
 needsStudy kind.Search = true
 needsStudy kind.Save = true
+needsStudy kind.Round = true
 
 -- the kind of a request
 abbrev pub requestKind : Request → Kind
@@ -53,3 +56,4 @@ requestKind Tighten = kind.Tighten
 requestKind (Certify q) = kind.Certify
 requestKind (Search q) = kind.Search
 requestKind Save = kind.Save
+requestKind Round = kind.Round

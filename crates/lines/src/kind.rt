@@ -10,6 +10,7 @@ pub enum Kind {
     Certify,
     Search,
     Save,
+    Round,
 }
 
 // What the constructor of a kind answers.
@@ -35,6 +36,7 @@ impl Kind {
             5 => NewKind::Known(Kind::Certify),
             6 => NewKind::Known(Kind::Search),
             7 => NewKind::Known(Kind::Save),
+            8 => NewKind::Known(Kind::Round),
             _ => NewKind::NoSuch,
         }
     }
@@ -51,6 +53,7 @@ impl Kind {
             Kind::Certify => 5,
             Kind::Search => 6,
             Kind::Save => 7,
+            Kind::Round => 8,
         }
     }
 
@@ -66,6 +69,7 @@ impl Kind {
             Kind::Certify => true,
             Kind::Search => true,
             Kind::Save => true,
+            Kind::Round => true,
         }
     }
 }

@@ -1,4 +1,4 @@
-// Document 01, 'Lines': a read line is either a refusal or one of seven requests, each with its own fields. Offsets, in bytes, stand for long fields.
+// Document 01, 'Lines': a read line is either a refusal or one of eight requests, each with its own fields. Offsets, in bytes, stand for long fields.
 use crate::field::Field;
 use refusals::Refusal;
 use tables::block::Block;
@@ -71,6 +71,7 @@ pub enum Request {
     Certify(Certify),
     Search(Search),
     Save,
+    Round,
 }
 
 pub enum Line {

@@ -140,17 +140,17 @@ module _ {b : List ℤ} (s : Study b) (i a p : ℕ) (h : i < trains b) (q : a < 
   module _ (x : ℕ → ℕ) (plan : IsPlan (shapeOf b) x) where
     -- the plan's cost at train i decides
     loaded-raised : (d : ℕ) → loadedChoice (added i a p b) i (x i) ≡ loadedChoice b i (x i) + d → loadedTotal (added i a p b) x ≡ loadedTotal b x + d
-    unfolding loadedCosts IsPlan
+    unfolding loadedCosts
     loaded-raised d e =
         same-shape-total add-same-shape s (loadedCosts (added i a p b)) x
-        ∙ total-raised (shapeOf b) (loadedCosts b) (loadedCosts (added i a p b)) x i d h refl e (λ j l n. other-choice j (x j) l (plan j l) (λ e. absurd (n e)) .0) (λ k. other-entry k _ _ .0)
+        ∙ total-raised (shapeOf b) (loadedCosts b) (loadedCosts (added i a p b)) x i d h refl e (λ j l n. other-choice j (x j) l (plan .below j l) (λ e. absurd (n e)) .0) (λ k. other-entry k _ _ .0)
 
     held-raised : (d : ℕ) → heldChoice (added i a p b) i (x i) ≡ heldChoice b i (x i) + d → heldTotal (added i a p b) x ≡ heldTotal b x + d
-    unfolding heldCosts IsPlan
+    unfolding heldCosts
     held-raised d e =
         same-shape-total add-same-shape s (heldCosts (added i a p b)) x
         ∙ total-raised (shapeOf b) (heldCosts b) (heldCosts (added i a p b)) x i d h (added-kept constantPlace (λ e. omega arith) (λ e. omega arith)) e
-        (λ j l n. other-choice j (x j) l (plan j l) (λ e. absurd (n e)) .1) (λ k. other-entry k _ _ .1)
+        (λ j l n. other-choice j (x j) l (plan .below j l) (λ e. absurd (n e)) .1) (λ k. other-entry k _ _ .1)
 
     -- a plan that takes the choice
     module _ (e : x i ≡ a) where
@@ -163,8 +163,7 @@ module _ {b : List ℤ} (s : Study b) (i a p : ℕ) (h : i < trains b) (q : a < 
     -- a plan that does not
     module _ (n : x i ≢ a) where
       kept : (loadedChoice (added i a p b) i (x i) ≡ loadedChoice b i (x i)) × (heldChoice (added i a p b) i (x i) ≡ heldChoice b i (x i))
-      unfolding IsPlan
-      kept = other-choice i (x i) h (plan i h) (λ _. n)
+      kept = other-choice i (x i) h (plan .below i h) (λ _. n)
 
       pub add-loaded-total-kept : loadedTotal (added i a p b) x ≡ loadedTotal b x
       add-loaded-total-kept = omega (arith, loaded-raised 0 (omega (arith, kept .0)))
@@ -179,9 +178,10 @@ module _ {b : List ℤ} (s : Study b) (i a p : ℕ) (h : i < trains b) (q : a < 
   chosen = update (λ _. 0) i a
 
   chosen-plan : IsPlan (shapeOf b) chosen
-  unfolding IsPlan
-  chosen-plan j l =
-      dite (ℕ-discrete j i) (λ (e : j ≡ i). rw (update-same (λ _. 0) i a j e, e) q) (λ n. rw (update-other (λ _. 0) i a j n) (size-range s j l .0))
+  chosen-plan =
+      record {
+        below = λ j l. dite (ℕ-discrete j i) (λ (e : j ≡ i). rw (update-same (λ _. 0) i a j e, e) q) (λ n. rw (update-other (λ _. 0) i a j n) (size-range s j l .0));
+      }
 
   -- no plan's total passes L, and the cost stays within its limit
   pub add-within : loadedChoice b i a + p ≤ maxCost → ((x : ℕ → ℕ) → IsPlan (shapeOf b) x → heldTotal (added i a p b) x ≤ maxParts) → addOutcome i a p b ≡ Fine

@@ -417,7 +417,7 @@ module _ {l : Numbers} (r : InRange l) where
   -- ---- 'T becomes s × H'
 
   pub load-total : (x : ℕ → ℕ) → IsPlan (shapeOf (loadedBlock l)) x → heldTotal (loadedBlock l) x ≡ scale (loadedBlock l) * loadedTotal (loadedBlock l) x
-  unfolding total choiceTotal pairTotal loadedCosts heldCosts IsPlan
+  unfolding total choiceTotal pairTotal loadedCosts heldCosts
   load-total x p =
       let b = loadedBlock l in
       let f : ℕ → ℕ = λ i. loadedChoice b i (x i) in
@@ -437,7 +437,7 @@ module _ {l : Numbers} (r : InRange l) where
       by-choice : (i : ℕ) → i < trains (loadedBlock l) → heldChoice (loadedBlock l) i (x i) ≡ scale (loadedBlock l) * loadedChoice (loadedBlock l) i (x i)
       by-choice i h =
           let q : i < length (l .sizes) = omega (arith, load-trains r) in
-          let t : x i < nth (l .sizes) i = omega (arith, p i h, load-size r i q) in
+          let t : x i < nth (l .sizes) i = omega (arith, p .below i h, load-size r i q) in
           rw (load-held-choice r i (x i) q t, load-loaded-choice r i (x i) q t, load-scale r)
 
       by-pair : (k : ℕ) → k < pairs (loadedBlock l)
@@ -447,6 +447,6 @@ module _ {l : Numbers} (r : InRange l) where
           let b = loadedBlock l in
           let q : k < length (l .firsts) = omega (arith, load-pairs r) in
           let w = r .below k q in
-          let t : x (first b k) < rowsOf (numbersShape l) k = omega (arith, p (first b k) (omega (arith, load-first r k q, load-trains r)), lanes-of k q) in
-          let u : x (second b k) < columnsOf (numbersShape l) k = omega (arith, p (second b k) (omega (arith, load-second r k q, load-trains r)), lanes-of k q) in
+          let t : x (first b k) < rowsOf (numbersShape l) k = omega (arith, p .below (first b k) (omega (arith, load-first r k q, load-trains r)), lanes-of k q) in
+          let u : x (second b k) < columnsOf (numbersShape l) k = omega (arith, p .below (second b k) (omega (arith, load-second r k q, load-trains r)), lanes-of k q) in
           rw (load-held-entry r k (x (first b k)) (x (second b k)) q t u, load-loaded-entry r k (x (first b k)) (x (second b k)) q t u, load-scale r)

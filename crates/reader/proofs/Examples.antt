@@ -88,12 +88,16 @@ cases =
     ∷ row "ff" false 1
     ∷ long "" 19835 false 2
     ∷ row "FF" false 3
-    ∷ row "08" true 3
+    ∷ row "09" true 3
     ∷ row "10" true 3
     ∷ row "07" false 4
     ∷ row "0700" false 4
     ∷ row "0700" true 5
     ∷ row "07" true 0
+    ∷ row "08" false 4
+    ∷ row "0800" false 4
+    ∷ row "0800" true 5
+    ∷ row "08" true 0
     ∷ row "04" false 4
     ∷ row "0400" false 4
     ∷ row "0400" true 5

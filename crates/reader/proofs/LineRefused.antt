@@ -21,7 +21,7 @@ use Rattle.frames.specs.declared.frame.NewFrame.the-variants.{Within, Long, Bro
 use Rattle.frames.specs.Frames.{newFrame}
 use Rattle.frames.specs.Digits.{bytes}
 use Rattle.lines.specs.declared.kind.Kind.{Kind}
-use Rattle.lines.specs.declared.kind.Kind.the-variants.{Load, Add, Shift, Tighten, Certify, Search, Save}
+use Rattle.lines.specs.declared.kind.Kind.the-variants.{Load, Add, Shift, Tighten, Certify, Search, Save, Round}
 use Rattle.lines.specs.declared.kind.NewKind.{NewKind}
 use Rattle.lines.specs.declared.kind.NewKind.the-variants.{Known, NoSuch}
 use Rattle.lines.specs.declared.field.Field.{Field}
@@ -146,6 +146,7 @@ module _ (l : List ℕ) (b : List ℤ) where
   reads-kind Certify = reads-certify l (weightCount (shapeOf b))
   reads-kind Search = reads-search l
   reads-kind Save = reads-end l kindWidth
+  reads-kind Round = reads-end l kindWidth
 
   own-study : (k : Kind) → OwnLine (studyLine k l b)
   unfolding studyLine

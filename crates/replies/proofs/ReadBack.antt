@@ -9,13 +9,14 @@ use lib.IntN.{ℤ}
 use Rattle.refusals.specs.declared.Refusal.{Refusal}
 use Rattle.refusals.specs.declared.Refusal.the-variants.{Characters, TooLong, NoKind, FreshBlock, Fields, Range, Cost, Pair, Absent, CostAbove, Move, PartsOutside, FullWeight, Sums, Budget, Malformed}
 use Rattle.refusals.specs.Refusals.{refusalNumber}
+use Rattle.tables.specs.Block.{constant}
 use Rattle.certificates.specs.declared.certify.Ceiling.{Ceiling}
 use Rattle.lines.specs.declared.kind.Kind.{Kind}
 use Rattle.lines.specs.declared.kind.Kind.the-variants.{Certify, Search}
 use Rattle.lines.proofs.KindNumbers.{number-low}
 use Rattle.search.specs.declared.answer.Found.{Found}
 use Rattle.replies.specs.Replies.{figureWidth, choiceWidth, refusalWidths, refusalByte, refusalReply, replyKind, boundWidths, boundOf, boundReply, certifyWidths, flag, certifyReply, searchWidths, shownCost, shownChoice, searchReply, refusalNumbers, boundNumbers, certifyNumbers, searchNumbers, planDigits}
-use Rattle.replies.specs.Shown.{kindShown, numberShown, boundShown, flagShown, weightedShown, fullWeightShown, saysEnded, costShown, planShown}
+use Rattle.replies.specs.Shown.{kindShown, numberShown, constantShown, boundShown, flagShown, weightedShown, fullWeightShown, saysEnded, costShown, planShown}
 use Rattle.replies.proofs.ReplyFields.{fields-shown, run-shown}
 
 flag-low : (t : Bool) → flag t < 256
@@ -55,12 +56,16 @@ module _ (r : Refusal) where
   unfolding refusalReply
   refusal-number = fields-shown refusalWidths (refusalNumbers r) [] refl 1 (omega arith) (refusal-low r)
 
--- ---- 81 to 84
+-- ---- 81 to 84, and 88
 
 module _ (kind : Kind) (b : List ℤ) where
   pub bound-kind : kindShown (boundReply kind b) ≡ replyKind kind
   unfolding boundReply
   bound-kind = fields-shown boundWidths (boundNumbers kind b) [] refl 0 (omega arith) (omega (arith, number-low kind))
+
+  pub constant-shown : constant b < 256 ^ figureWidth → constantShown (boundReply kind b) ≡ constant b
+  unfolding boundReply
+  constant-shown h = fields-shown boundWidths (boundNumbers kind b) [] refl 1 (omega arith) h
 
   pub bound-shown : boundOf b < 256 ^ figureWidth → boundShown (boundReply kind b) ≡ boundOf b
   unfolding boundReply

@@ -51,7 +51,7 @@ refusalNumbers r = refusalByte ∷ refusalNumber r ∷ []
 unfoldable pub refusalReply : Refusal → List ℕ
 refusalReply r = fieldsDigits refusalWidths (refusalNumbers r) []
 
--- ---- 'Kinds 01 to 04: 81 to 84', 'Certify: 85', 'Search: 86'
+-- ---- 'Kinds 01 to 04: 81 to 84', 'Certify: 85', 'Search: 86', and 88 for 08
 
 -- the first byte of the reply to a line of this first byte
 abbrev pub replyByte : ℕ → ℕ
@@ -60,7 +60,7 @@ replyByte number = 128 + number
 abbrev pub replyKind : Kind → ℕ
 replyKind kind = replyByte (kindNumber kind)
 
--- ---- '81 to 84, c0 in parts (6), bound in points (6)'
+-- ---- '81 to 84, c0 in parts (6), bound in points (6)'; '88 with constant and bound'
 
 abbrev pub boundWidths : List ℕ
 boundWidths = 1 ∷ figureWidth ∷ figureWidth ∷ []

@@ -1,6 +1,6 @@
 -- No reply to a request is empty or longer than the longest line, and none but a saved line is longer than the longest of the fixed replies.
 use mathlib.Core.Path.{_≡_, refl}
-use mathlib.Core.Bool.{true, false}
+use mathlib.Core.Bool.{true}
 use Prim.Native.Nat.{ℕ, _<_, _≤_}
 use mathlib.Core.List.{List}
 use native.Mathlib.Omega.{arith}
@@ -17,6 +17,7 @@ use Rattle.operations.specs.Add.{addOutcome}
 use Rattle.operations.specs.Load.{loadedBlock}
 use Rattle.shift.specs.Shift.{shiftOutcome}
 use Rattle.tighten.specs.Tighten.{tightenOutcome}
+use Rattle.directional.specs.Directional.{directOutcome}
 use Rattle.certificates.specs.declared.certify.Certificate.{Certificate}
 use Rattle.certificates.specs.declared.certify.Certificate.the-variants.{Unbalanced, Balanced}
 use Rattle.certificates.specs.Certify.{weightsOf, certificate}
@@ -25,7 +26,7 @@ use Rattle.frames.specs.Runs.{runOf, signedRunOf}
 use Rattle.lines.specs.declared.kind.Kind.{Kind}
 use Rattle.lines.specs.declared.kind.Kind.the-variants as kind
 use Rattle.lines.specs.declared.request.Request.{Request}
-use Rattle.lines.specs.declared.request.Request.the-variants.{Load, Add, Shift, Tighten, Certify, Search, Save}
+use Rattle.lines.specs.declared.request.Request.the-variants.{Load, Add, Shift, Tighten, Certify, Search, Save, Round}
 use Rattle.lines.specs.Kinds.{requestKind}
 use Rattle.lines.specs.Layout.{moveWidth, weightWidth}
 use Rattle.decoding.specs.Numbers.{numbersOf}
@@ -35,7 +36,7 @@ use Rattle.replies.proofs.Lengths.{bound-length, certify-length, search-length,
 use Rattle.saving.proofs.Together.{save-length, save-framed}
 use Rattle.requests.specs.Answer.{operated, certified, requested, fixedReply}
 use Rattle.requests.specs.Wrote.{Asks}
-use Rattle.requests.proofs.Ready.{search-ready, save-ready}
+use Rattle.requests.proofs.Ready.{study-ready}
 
 -- a reply of so many characters at most, but not empty
 abbrev pub UpTo : ℕ → List ℕ → Type 0
@@ -60,8 +61,9 @@ requested-short l b room (Shift q) e a =
     operated-short kind.Shift (shiftOutcome lifts moves b) b _
 requested-short l b room Tighten e a = operated-short kind.Tighten (tightenOutcome b) b _
 requested-short l b room (Certify q) e a = certified-short (q .full) (certificate b (weightsOf b (q .full) (runOf l (q .weights .at) weightWidth (q .weights .count)))) b
-requested-short l b room (Search q) e a = omega (arith, search-length (trains b) (searchAnswer b (q .budget)), trains-range (search-ready a .0))
+requested-short l b room (Search q) e a = omega (arith, search-length (trains b) (searchAnswer b (q .budget)), trains-range (study-ready a refl))
 requested-short l b room Save e a = absurd (not-both e refl)
+requested-short l b room Round e a = operated-short kind.Round (directOutcome b) b _
 
 -- a saved line is a frame
 saved-most : (l : List ℕ) (b : List ℤ) → Study b → UpTo maxCharacters (requested Save l b .reply)
@@ -76,4 +78,5 @@ requested-most l b room (Shift q) a = omega (arith, requested-short l b room (Sh
 requested-most l b room Tighten a = omega (arith, requested-short l b room Tighten refl a)
 requested-most l b room (Certify q) a = omega (arith, requested-short l b room (Certify q) refl a)
 requested-most l b room (Search q) a = omega (arith, requested-short l b room (Search q) refl a)
-requested-most l b room Save a = saved-most l b (save-ready a)
+requested-most l b room Save a = saved-most l b (study-ready a refl)
+requested-most l b room Round a = omega (arith, requested-short l b room Round refl a)

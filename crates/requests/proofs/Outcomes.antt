@@ -15,6 +15,7 @@ use Rattle.operations.specs.Add.{added, addOutcome}
 use Rattle.operations.specs.Load.{loadedBlock}
 use Rattle.shift.specs.Shift.{shifted, shiftOutcome, shiftBlock}
 use Rattle.tighten.specs.Tighten.{tightened, tightenOutcome}
+use Rattle.directional.specs.Directional.{directed, directOutcome}
 use Rattle.certificates.specs.declared.certify.Certificate.{Certificate}
 use Rattle.certificates.specs.declared.certify.Certificate.the-variants.{Unbalanced, Balanced}
 use Rattle.certificates.specs.Certify.{weightsOf, certificate}
@@ -26,7 +27,7 @@ use Rattle.lines.specs.declared.request.Add.{Add}
 use Rattle.lines.specs.declared.request.Shift.{Shift}
 use Rattle.lines.specs.declared.request.Search.{Search}
 use Rattle.lines.specs.declared.request.Certify.{Certify}
-use Rattle.lines.specs.declared.request.Request.the-variants.{Load as load-of, Add as add-of, Shift as shift-of, Tighten as tighten-of, Certify as certify-of, Search as search-of, Save as save-of}
+use Rattle.lines.specs.declared.request.Request.the-variants.{Load as load-of, Add as add-of, Shift as shift-of, Tighten as tighten-of, Certify as certify-of, Search as search-of, Save as save-of, Round as round-of}
 use Rattle.lines.specs.Layout.{moveWidth, weightWidth}
 use Rattle.decoding.specs.Numbers.{numbersOf}
 use Rattle.search.specs.Answer.{searchAnswer}
@@ -78,6 +79,11 @@ pub tighten-answers : (l : List ℕ) (b : List ℤ) {left : List ℤ} {buffer af
     → Answers (operated kind.Tighten (tightenOutcome b) b (tightened b)) buffer left after n → Answers (requested tighten-of l b) buffer left after n
 unfolding requested
 tighten-answers l b a = a
+
+pub round-answers : (l : List ℕ) (b : List ℤ) {left : List ℤ} {buffer after : List ℕ} {n : ℕ}
+    → Answers (operated kind.Round (directOutcome b) b (directed b)) buffer left after n → Answers (requested round-of l b) buffer left after n
+unfolding requested
+round-answers l b a = a
 
 -- a certificate leaves the block, declined or not
 certified-leaves : (fullWeight : ℕ) (c : Certificate) (b : List ℤ) → certified fullWeight c b .block ≡ b

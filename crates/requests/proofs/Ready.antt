@@ -39,7 +39,8 @@ use Rattle.lines.specs.declared.request.Shift.{Shift}
 use Rattle.lines.specs.declared.request.Certify.{Certify}
 use Rattle.lines.specs.declared.request.Search.{Search}
 use Rattle.lines.specs.declared.request.Request.{Request}
-use Rattle.lines.specs.declared.request.Request.the-variants.{Load as load-of, Add as add-of, Shift as shift-of, Tighten as tighten-of, Certify as certify-of, Search as search-of, Save as save-of}
+use Rattle.lines.specs.declared.request.Request.the-variants.{Load as load-of, Add as add-of, Shift as shift-of, Certify as certify-of, Search as search-of}
+use Rattle.lines.specs.Kinds.{needsStudy, requestKind}
 use Rattle.lines.specs.Layout.{costWidth, moveWidth, weightWidth, loadTrains, loadScale, choiceCount, loadPairs, loadFirst, loadSecond, pairAt, addTrain, addChoice, addPoints, certifyFullWeight, searchBudget, numberIn, signedIn, endOf, further, countWidth, pairWidth, sizeField, choiceField, pairCountField, liftField, moveField, weightField}
 use Rattle.lines.specs.Verdicts.{fieldRun}
 use Rattle.lines.proofs.Judged.{field-within}
@@ -63,27 +64,25 @@ module _ {l : List ℕ} {b : List ℤ} {q : Request} {room : ℕ} (a : Asks l b 
   even : length l ≡ 2 * bytes l
   even = frame-length frame .even
 
--- ---- 02 add, 04 tighten, 06 search, 07 save
+  -- a kind that needs a study found one
+  pub study-ready : needsStudy (requestKind q) ≡ true → Study b
+  study-ready n = study-of b (a .right) (rw n at (makes .2))
+
+-- ---- 02 add, 06 search
 
 pub add-ready : {l : List ℕ} {b : List ℤ} {q : Add} {room : ℕ} → Asks l b (add-of q) room → Adds b q
 add-ready {l} {b} {q} a =
     let m = makes a in
     let e : q ≡ record { train = addTrain l; choice = addChoice l; points = thePoints (addPoints l) } = cc in
-    let s = study-of b (a .right) (m .2) in
+    let s = study-ready a refl in
     let f = add-fine l b (m .1) in
     rw e (record { study = s; train = add-there s f .0; choice = add-there s f .1; points = f .points })
-
-pub tighten-ready : {l : List ℕ} {b : List ℤ} {room : ℕ} → Asks l b tighten-of room → Study b
-tighten-ready {l} {b} a = study-of b (a .right) (makes a .2)
 
 pub search-ready : {l : List ℕ} {b : List ℤ} {q : Search} {room : ℕ} → Asks l b (search-of q) room → Study b × (q .budget ≤ maxBudget)
 search-ready {l} {b} {q} a =
     let m = makes a in
     let e : q ≡ record { budget = searchBudget l } = cc in
-    (study-of b (a .right) (m .2), rw e (search-fine l (m .1) .budget .1))
-
-pub save-ready : {l : List ℕ} {b : List ℤ} {room : ℕ} → Asks l b save-of room → Study b
-save-ready {l} {b} a = study-of b (a .right) (makes a .2)
+    (study-ready a refl, rw e (search-fine l (m .1) .budget .1))
 
 -- ---- 05 certify
 
@@ -98,7 +97,7 @@ pub certify-ready : {l : List ℕ} {b : List ℤ} {q : Certify} {room : ℕ} →
 certify-ready {l} {b} {q} a =
     let m = makes a in
     let e : q ≡ record { full = certifyFullWeight l; weights = fieldRun (weightField .at) (weightCount (shapeOf b)) } = cc in
-    let s = study-of b (a .right) (m .2) in
+    let s = study-ready a refl in
     let f = certify-fine l (weightCount (shapeOf b)) (m .1) in
     let g : ℕ → ℕ = λ k. numberIn l (further weightField k) in
     rw e
@@ -146,7 +145,7 @@ pub shift-ready : {l : List ℕ} {b : List ℤ} {q : Shift} {room : ℕ} → Ask
 shift-ready {l} {b} {q} a =
     let m = makes a in
     let e : q ≡ record { lifts = fieldRun (liftField .at) (trains b); moves = fieldRun (moveField (trains b) .at) (moveCount (shapeOf b)) } = cc in
-    let s = study-of b (a .right) (m .2) in
+    let s = study-ready a refl in
     let f = shift-fine l (trains b) (moveCount (shapeOf b)) (m .1) in
     rw e
     (record {

@@ -15,6 +15,7 @@ use Rattle.operations.specs.Load.{loadedBlock}
 use Rattle.operations.specs.Saved.{savedNumbers}
 use Rattle.shift.specs.Shift.{shifted, shiftOutcome}
 use Rattle.tighten.specs.Tighten.{tightened, tightenOutcome}
+use Rattle.directional.specs.Directional.{directed, directOutcome}
 use Rattle.certificates.specs.declared.certify.Certificate.{Certificate}
 use Rattle.certificates.specs.declared.certify.Certificate.the-variants.{Unbalanced, Balanced}
 use Rattle.certificates.specs.Certify.{weightsOf, certificate}
@@ -22,7 +23,7 @@ use Rattle.frames.specs.Runs.{runOf, signedRunOf}
 use Rattle.lines.specs.declared.kind.Kind.{Kind}
 use Rattle.lines.specs.declared.kind.Kind.the-variants as kind
 use Rattle.lines.specs.declared.request.Request.{Request}
-use Rattle.lines.specs.declared.request.Request.the-variants.{Load, Add, Shift, Tighten, Certify, Search, Save}
+use Rattle.lines.specs.declared.request.Request.the-variants.{Load, Add, Shift, Tighten, Certify, Search, Save, Round}
 use Rattle.lines.specs.declared.request.Line.{Line}
 use Rattle.lines.specs.declared.request.Line.the-variants.{Asked, Refused}
 use Rattle.lines.specs.Layout.{moveWidth, weightWidth}
@@ -44,7 +45,8 @@ answered b reply = record { block = b; reply = reply }
 abbrev pub declined : List ℤ → Refusal → Answer
 declined b r = answered b (refusalReply r)
 
--- an operation that ends at `new` and is done answers with the new constant and bound; a declined one, 10 or 12, leaves the block
+-- an operation that ends at `new` and is done answers with the new constant and bound, a directional round too: 'The reply is 88 with constant and bound; 12 applies'; a declined one, 10 or 12,
+-- leaves the block
 abbrev pub operated : Kind → Verdict → List ℤ → List ℤ → Answer
 operated kind Fine old new = answered new (boundReply kind new)
 operated kind (Declined r) old new = declined old r
@@ -70,6 +72,7 @@ requested Tighten l b = operated kind.Tighten (tightenOutcome b) b (tightened b)
 requested (Certify q) l b = certified (q .full) (certificate b (weightsOf b (q .full) (runOf l (q .weights .at) weightWidth (q .weights .count)))) b
 requested (Search q) l b = answered b (searchReply (trains b) (searchAnswer b (q .budget)))
 requested Save l b = saved b
+requested Round l b = operated kind.Round (directOutcome b) b (directed b)
 
 -- what a line asks, done, or the refusal
 abbrev pub carriedOut : Line → List ℕ → List ℤ → Answer
@@ -85,6 +88,7 @@ fixedReply kind.Tighten = true
 fixedReply kind.Certify = true
 fixedReply kind.Search = true
 fixedReply kind.Save = false
+fixedReply kind.Round = true
 
 -- 17: a reply that is longer than the room for it 'hands back an empty part and writes nothing', and leaves the block
 abbrev pub fitted : ℕ → List ℤ → Answer → Answer

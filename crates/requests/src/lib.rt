@@ -4,6 +4,7 @@ mod certify_line;
 pub mod line;
 mod load_line;
 mod outcome;
+mod round_line;
 mod save_line;
 mod search_line;
 mod shift_line;

@@ -10,6 +10,7 @@ ghost use Rattle.requests.specs.Wrote.{Answers, Asks};
 use crate::add_line;
 use crate::certify_line;
 use crate::load_line;
+use crate::round_line;
 use crate::save_line;
 use crate::search_line;
 use crate::shift_line;
@@ -43,5 +44,6 @@ fn answer_request(line: &[u8], block: &mut [i64], reply: &mut [u8], q: Request) 
         Request::Certify(p) => certify_line::answer_certify(line, block, reply, p),
         Request::Search(p) => search_line::answer_search(block, reply, p),
         Request::Save => save_line::answer_save(block, reply),
+        Request::Round => round_line::answer_round(block, reply),
     }
 }

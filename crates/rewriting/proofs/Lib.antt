@@ -4,6 +4,7 @@ pub mod Runs
 pub mod Shape
 pub mod Steps
 pub mod Turns
+pub mod Falls
 pub mod Totals
 pub mod Reach
 pub mod Rewritten

@@ -156,13 +156,13 @@ module _ {b : List ℤ} (s : Study b) (c : List ℤ) (e : SameShape b c) (unmet 
 module _ {b : List ℤ} (s : Study b) where
   -- choice 0 everywhere, and a plan with train i at another choice
   plain-plan : IsPlan (shapeOf b) (λ i. 0)
-  unfolding IsPlan
-  plain-plan i h = size-range s i h .0
+  plain-plan = record { below = λ i h. size-range s i h .0 }
 
   update-plan : (x : ℕ → ℕ) (i a : ℕ) → IsPlan (shapeOf b) x → a < size b i → IsPlan (shapeOf b) (update x i a)
-  unfolding IsPlan
-  update-plan x i a p q j h =
-      dite (ℕ-discrete j i) (λ (e : j ≡ i). rw (update-same x i a j e, e) q) (λ n. rw (update-other x i a j n) (p j h))
+  update-plan x i a p q =
+      record {
+        below = λ j h. dite (ℕ-discrete j i) (λ (e : j ≡ i). rw (update-same x i a j e, e) q) (λ n. rw (update-other x i a j n) (p .below j h));
+      }
 
   module _ (c : List ℤ) (e : SameShape b c) (natural : (p : ℕ) → at c p ≡ pos (figure c p)) (unmet : (p : ℕ) → Unmet b p → at c p ≡ at b p)
       (low : (x : ℕ → ℕ) → IsPlan (shapeOf b) x → heldTotal c x ≤ maxParts) where

@@ -81,7 +81,7 @@ module _ {b : List ℤ} (s : Study b) where
   study-non-empty = record { sizes = λ i h. size-range s i h .0; firsts = first-below-trains s; seconds = second-below-trains s }
 
   pub study-non-negative : NonNegative b
-  study-non-negative = record { natural = λ p. study-figure p .0; entries = λ p h. study-figure p .1 }
+  study-non-negative = record { natural = λ p. study-figure p .0 }
 
   pub study-room : Room b maxParts
   study-room = record { room = λ p. omega (arith, nat-room (at b p) (figure b p) (study-figure p .0), study-figure p .1) }

@@ -143,8 +143,7 @@ pos-same m n e = ap nat e
 -- a chain that begins at a study and ends where every number is natural keeps every plan's total
 pub moved-keeps-total : {R : Asked} {b c : List ℤ} {n : ℕ} → Study b → Moved R b n c → ((p : ℕ) → at c p ≡ pos (figure c p))
     → (x : ℕ → ℕ) → IsPlan (shapeOf b) x → heldTotal c x ≡ heldTotal b x
-unfolding IsPlan
 moved-keeps-total {b = b} {c} s v natural x p =
-    let w : Taken b x = record { inRange = study-shape-in-range s; nonEmpty = study-non-empty s; plan = p } in
+    let w : Taken b x = record { inRange = study-shape-in-range s; nonEmpty = study-non-empty s; plan = p .below } in
     same-shape-total (moved-shape (study-shape-in-range s) v) s (heldCosts c) x
     ∙ pos-same _ _ (sym (paid-natural b x c natural) ∙ moved-total w v ∙ paid-natural b x b (λ q. study-figure s q .0))

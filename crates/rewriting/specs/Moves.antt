@@ -6,7 +6,7 @@ use lib.IntN.{ℤ, negℤ, _+ℤ_, pos}
 use lib.ListN.{length, set}
 use lib.Signed.{mag}
 use Rattle.theory.specs.Fold.{iter}
-use Rattle.tables.specs.Block.{blockLength, maxTrains, maxChoices, maxPairs, constantPlace, heldChoicePlace, heldEntryPlace, at, trains, pairs, size, first, second, maxParts, heldEntriesFrom, figure}
+use Rattle.tables.specs.Block.{blockLength, maxTrains, maxChoices, maxPairs, constantPlace, heldChoicePlace, heldEntryPlace, at, trains, pairs, size, first, second, figure}
 use Rattle.rewriting.specs.declared.sides.PlaceRun.{PlaceRun}
 use Rattle.rewriting.specs.declared.sides.Side.{Side}
 use Rattle.rewriting.specs.declared.sides.Side.the-variants.{Rows, Columns}
@@ -24,10 +24,9 @@ pub record ShapeInRange (b : List ℤ) : Type 0 where
   pub firsts : (k : ℕ) → k < maxPairs → first b k < maxTrains
   pub seconds : (k : ℕ) → k < maxPairs → second b k < maxTrains
 
--- no number of the block is below 0, and no entry of a pair above L: so it stays while a study is tightened
+-- no number of the block is below 0: so it stays while leasts are moved
 pub record NonNegative (b : List ℤ) : Type 0 where
   pub natural : (p : ℕ) → at b p ≡ pos (figure b p)
-  pub entries : (p : ℕ) → heldEntriesFrom ≤ p → figure b p ≤ maxParts
 
 -- each train has a choice, and each pair two trains that are there
 pub record NonEmpty (b : List ℤ) : Type 0 where

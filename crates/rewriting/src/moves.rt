@@ -11,7 +11,7 @@ use crate::sides::PlaceRun;
 use crate::sides::Side;
 
 // The number below 0 that is as far from 0, and the other way round.
-fn negated(z: i64) -> i64
+pub fn negated(z: i64) -> i64
     requires { ⌜ mag z < 2 ^ 62 ⌝ }
     ensures { λ r. ⌜ (r ≡ negℤ z) × (mag r ≤ mag z + 1) ⌝ }
 {

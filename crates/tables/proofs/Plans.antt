@@ -29,12 +29,10 @@ study-shaped s =
 -- a plan's choice is there, by train and by pair
 module _ (s : Shape) (sh : Shaped s) (x : ℕ → ℕ) (p : IsPlan s x) (k : ℕ) (h : k < s .pairs) where
   pub plan-first : x (s .first k) < s .size (s .first k)
-  unfolding IsPlan
-  plan-first = p (s .first k) (omega (arith, sh .ascends k h, sh .inside k h))
+  plan-first = p .below (s .first k) (omega (arith, sh .ascends k h, sh .inside k h))
 
   pub plan-second : x (s .second k) < s .size (s .second k)
-  unfolding IsPlan
-  plan-second = p (s .second k) (sh .inside k h)
+  plan-second = p .below (s .second k) (sh .inside k h)
 
 -- tables that agree where a plan goes give it the same total
 pub total-cong : (s : Shape) (t u : Costs) (x : ℕ → ℕ) → t .constant ≡ u .constant
@@ -95,8 +93,7 @@ alike-then {s} {u} {v} e f =
 
 -- they have the same plans, with the same totals
 pub alike-plan : {s u : Shape} → AlikeShapes s u → (x : ℕ → ℕ) → IsPlan u x → IsPlan s x
-unfolding IsPlan
-alike-plan {s} {u} e x p i h = omega (arith, p i (omega (arith, e .trains-same)), e .sizes-same i h)
+alike-plan {s} {u} e x p = record { below = λ i h. omega (arith, p .below i (omega (arith, e .trains-same)), e .sizes-same i h) }
 
 pub alike-total : {s u : Shape} → AlikeShapes s u → (t : Costs) (x : ℕ → ℕ) → total s t x ≡ total u t x
 unfolding total choiceTotal pairTotal

@@ -1,7 +1,7 @@
 -- Document 01, 'Problem and units': the shape of a problem, its costs, its plans and their totals, above the places of the block.
 use mathlib.Core.Path.{_≡_}
 use mathlib.Core.List.{List}
-use Prim.Native.Nat.{ℕ, _+_, _<_}
+use Prim.Native.Nat.{ℕ, _+_, _<_, _≤_}
 use lib.IntN.{ℤ}
 use lib.ListN.{getD}
 use Rattle.theory.specs.Sum.{sum}
@@ -30,8 +30,19 @@ pub record Costs : Type 0 where
   pub pair : ℕ → ℕ → ℕ → ℕ
 
 -- 'A plan gives each train one choice'
-unfoldable pub IsPlan : Shape → (ℕ → ℕ) → Type 0
-IsPlan s x = (i : ℕ) → i < s .trains → x i < s .size i
+pub record IsPlan (s : Shape) (x : ℕ → ℕ) : Type 0 where
+  pub below : (i : ℕ) → i < s .trains → x i < s .size i
+
+-- document 02, change 4, 'at most one partner of lower number': no two pairs have the same second train
+pub record Branches (s : Shape) : Type 0 where
+  pub one : (k l : ℕ) → k < s .pairs → l < s .pairs → s .second k ≡ s .second l → k ≡ l
+
+-- 'the least total of any plan': v is at most f of every plan, and one has it
+pub record LeastOf (s : Shape) (f : (ℕ → ℕ) → ℕ) (v : ℕ) : Type 0 where
+  pub least : (x : ℕ → ℕ) → IsPlan s x → v ≤ f x
+  pub plan : ℕ → ℕ
+  pub is-plan : IsPlan s plan
+  pub is : f plan ≡ v
 
 -- the choices that a list gives, by train
 abbrev pub choicesOf : List ℕ → ℕ → ℕ

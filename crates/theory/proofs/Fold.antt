@@ -6,7 +6,7 @@ use native.Mathlib.Decide.{decLt}
 use native.Mathlib.Nat.{eq-or-lt-of-le}
 use native.Mathlib.Numerals.{add-one}
 use native.Mathlib.Omega.{arith}
-use Rattle.theory.specs.Fold.{iter, least}
+use Rattle.theory.specs.Fold.{iter, down, least}
 
 -- a loop's first and next turn
 pub iter-zero {ℓ} : {A : Type ℓ} (f : ℕ → A → A) (a : A) → iter 0 f a ≡ a
@@ -27,6 +27,22 @@ pub iter-ind {ℓ ℓ′} : {A : Type ℓ} (P : ℕ → A → Type ℓ′) (n : 
 unfolding iter
 iter-ind P zero f a z s = z
 iter-ind P (suc n) f a z s = rw add-one at (s n (iter n f a) (omega arith) (iter-ind P n f a z (λ i x h. s i x (omega arith))))
+
+-- a loop that counts down: its end, and its next turn
+pub down-zero {ℓ} : {A : Type ℓ} (f : ℕ → A → A) (a : A) → down 0 f a ≡ a
+unfolding down
+down-zero f a = refl
+
+pub down-more {ℓ} : {A : Type ℓ} (n : ℕ) (f : ℕ → A → A) (a : A) → down (n + 1) f a ≡ down n f (f n a)
+unfolding down
+down-more n f a = rw add-one
+
+-- what holds at the start, where n turns are to come, and is kept by each turn holds at the end
+pub down-ind {ℓ ℓ′} : {A : Type ℓ} (P : ℕ → A → Type ℓ′) (n : ℕ) (f : ℕ → A → A) (a : A)
+    → P n a → ((i : ℕ) (x : A) → i < n → P (i + 1) x → P i (f i x)) → P 0 (down n f a)
+unfolding down
+down-ind P zero f a z s = z
+down-ind P (suc n) f a z s = down-ind P n f (f n a) (s n a (omega arith) (rw add-one z)) (λ i x h. s i x (omega arith))
 
 pub least-zero : (f : ℕ → ℕ) → least 0 f ≡ f 0
 unfolding least

@@ -11,23 +11,25 @@ use Rattle.tables.specs.Plans.{IsPlan, shapeOf, heldTotal}
 use Rattle.tables.specs.WellFormed.{holdsStudy, Study}
 use Rattle.tables.proofs.Study.{study-holds, same-trains, same-size}
 use Rattle.rewriting.specs.Moves.{ShapeInRange}
+use Rattle.rewriting.specs.Leasts.{trainTightened}
 use Rattle.rewriting.proofs.Shape.{study-shape-in-range, study-non-empty, study-non-negative, study-room, shape-in-range-kept, non-empty-kept, Moved, none, moved-shape, moved-map, moved-more, moved-then, allMoves, Any}
 use Rattle.rewriting.proofs.Totals.{moved-keeps-total}
 use Rattle.rewriting.proofs.Reach.{reach-study}
 use Rattle.rewriting.proofs.Rewritten.{rewrites-shape, rewrites-unmet}
-use Rattle.tighten.specs.Tighten.{pairTightened, trainTightened, pairsTightened, tightened}
-use Rattle.tighten.proofs.Falls.{Falling, falling-room, falling-non-negative, falling-pairs, falling-trains, Tight, moved-falling, moved-raises, Zero, zero-as, trains-zero, pairs-tightened, trains-tightened}
+use Rattle.rewriting.proofs.Falls.{Falling, falling-room, falling-non-negative, falling-start, Tight, moved-falling, moved-raises, trains-tightened, Zero, zero-as}
+use Rattle.tighten.specs.Tighten.{pairTightened, pairsTightened, tightened}
+use Rattle.tighten.proofs.Folds.{trains-zero, pairs-tightened}
 
 module _ {b : List ℤ} (s : Study b) where
   pairs-chain : Moved (Tight heldEntriesFrom) b (0 + 16 * pairs b) (pairsTightened b)
   pairs-chain = pairs-tightened (study-shape-in-range s) (pairs b) 0 b (omega arith) none
 
   abbrev pairs-falling : Falling heldEntriesFrom maxParts (maxParts + (0 + 16 * pairs b) * maxParts) (pairsTightened b)
-  pairs-falling = moved-falling (study-shape-in-range s) (falling-pairs (study-non-negative s) (study-room s)) pairs-chain
+  pairs-falling = moved-falling (study-shape-in-range s) (falling-start (study-non-negative s) (study-room s)) pairs-chain
 
   -- no number falls below 0 in the pairs' turns
   pub pairs-natural : (m : ℕ) → m ≤ pairs b → (p : ℕ) → at (iter m pairTightened b) p ≡ pos (figure (iter m pairTightened b) p)
-  pairs-natural m h = moved-falling (study-shape-in-range s) (falling-pairs (study-non-negative s) (study-room s)) (pairs-tightened (study-shape-in-range s) m 0 b h none) .natural
+  pairs-natural m h = moved-falling (study-shape-in-range s) (falling-start (study-non-negative s) (study-room s)) (pairs-tightened (study-shape-in-range s) m 0 b h none) .natural
 
   between : ShapeInRange (pairsTightened b)
   between = shape-in-range-kept (moved-shape (study-shape-in-range s) pairs-chain) (study-shape-in-range s)
@@ -47,7 +49,7 @@ module _ {b : List ℤ} (s : Study b) where
   pairs-most = maxParts + (0 + 16 * pairs b) * maxParts
 
   start-falling : Falling heldChoicesFrom pairs-most pairs-most (pairsTightened b)
-  start-falling = falling-trains (falling-non-negative pairs-falling) (falling-room pairs-falling)
+  start-falling = falling-start (falling-non-negative pairs-falling) (falling-room pairs-falling)
 
   trains-falling : (m : ℕ) → m ≤ trains (pairsTightened b)
       → Falling heldChoicesFrom pairs-most (pairs-most + (0 + m) * pairs-most) (iter m trainTightened (pairsTightened b))
@@ -66,7 +68,7 @@ module _ {b : List ℤ} (s : Study b) where
   tighten-raises-constant =
       omega (
         arith,
-        moved-raises {source = heldEntriesFrom} (omega arith) (study-shape-in-range s) (falling-pairs (study-non-negative s) (study-room s)) pairs-chain,
+        moved-raises {source = heldEntriesFrom} (omega arith) (study-shape-in-range s) (falling-start (study-non-negative s) (study-room s)) pairs-chain,
         moved-raises {source = heldChoicesFrom} (omega arith) between start-falling (trains-chain (trains (pairsTightened b)) (omega arith)),
       )
 

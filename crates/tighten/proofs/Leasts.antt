@@ -23,11 +23,12 @@ use Rattle.rewriting.specs.declared.sides.Side.{Side}
 use Rattle.rewriting.specs.declared.sides.Side.the-variants.{Rows, Columns}
 use Rattle.rewriting.specs.Ends.{ofPair, endsOf, SameEnds, Above, SomeEnd}
 use Rattle.rewriting.specs.Moves.{ShapeInRange, NonEmpty, runPlace, laneTrain, laneRun, choicesRun}
+use Rattle.rewriting.specs.Leasts.{runLeast, runTightened}
 use Rattle.rewriting.proofs.Shape.{study-figure, study-shape-in-range, study-non-empty, shape-same, shape-in-range-kept, non-empty-kept, lane-non-empty}
 use Rattle.rewriting.proofs.Steps.{acrossTrain, lanePlace, lane-same, choices-same}
 use Rattle.rewriting.proofs.Turns.{of-map, RowSent, ColumnSent, pairTurned, trainsTurned, pair-constant, pair-choice, pair-entry, pair-entry-other, pairs-shape, pairs-constant, pairs-choice, pairs-entry, trains-constant, trains-choice, trains-high}
 use Rattle.rewriting.proofs.Judged.{done-unless, judged-above, judged-ends}
-use Rattle.tighten.specs.Tighten.{runLeast, runTightened, pairTightened, pairsTightened, trainsTightened, tightened, tightenOutcome, tightenBlock}
+use Rattle.tighten.specs.Tighten.{pairTightened, pairsTightened, trainsTightened, tightened, tightenOutcome, tightenBlock}
 use Rattle.tighten.specs.Leasts.{rowLeast, restLeast, gain, entryLeft, pairEnds, trainLeast, trainsEnds, tightenEnds}
 use Rattle.tighten.proofs.Ends.{pairs-natural, tighten-rewrites, tighten-natural}
 

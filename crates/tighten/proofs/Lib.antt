@@ -1,4 +1,4 @@
 -- The laws of the crate: one file for each idea.
-pub mod Falls
+pub mod Folds
 pub mod Ends
 pub mod Leasts

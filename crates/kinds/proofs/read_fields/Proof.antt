@@ -45,6 +45,12 @@ enum-told-7 c = search needs
 read-bare-requires-2 : tie.Need-read-bare-requires-2
 read-bare-requires-2 c κs = search needs
 
+enum-told-8 : tie.Need-enum-told-8
+enum-told-8 c = search needs
+
+read-bare-requires-3 : tie.Need-read-bare-requires-3
+read-bare-requires-3 c κs = search needs
+
 returns : tie.Need-returns
 returns c = rw (c .before .enum-told .given .1) (c .read-load .ensures)
 
@@ -66,6 +72,9 @@ returns-6 c = rw (c .before .enum-told6 .given .1) (c .read-search .ensures)
 returns-7 : tie.Need-returns-7
 returns-7 c = rw (c .before .enum-told7 .given .1) (c .read-bare2 .ensures)
 
+returns-8 : tie.Need-returns-8
+returns-8 c = rw (c .before .enum-told8 .given .1) (c .read-bare3 .ensures)
+
 pub read-fields-spec : {M : Type 1} → statement M
 read-fields-spec =
     tie.close
@@ -84,10 +93,13 @@ read-fields-spec =
     read-search-requires
     enum-told-7
     read-bare-requires-2
+    enum-told-8
+    read-bare-requires-3
     returns
     returns-2
     returns-3
     returns-4
     returns-5
     returns-6
-    returns-7)
+    returns-7
+    returns-8)

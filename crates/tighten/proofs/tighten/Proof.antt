@@ -7,7 +7,8 @@ use Rattle.tables.specs.Block.{heldEntriesFrom, pairs}
 use Rattle.rewriting.specs.Judged.{judged, judgedBlock}
 use Rattle.rewriting.proofs.Runs.{room-more}
 use Rattle.rewriting.proofs.Shape.{Moved, none, moved-as, moved-shape, shape-in-range-kept, non-empty-kept, study-shape-in-range, study-non-empty, study-non-negative, study-room}
-use Rattle.tighten.proofs.Falls.{Tight, falling-room, falling-non-negative, falling-pairs, moved-falling, pairs-tightened, tightened-by}
+use Rattle.rewriting.proofs.Falls.{Tight, falling-room, falling-non-negative, falling-start, moved-falling}
+use Rattle.tighten.proofs.Folds.{pairs-tightened, tightened-by}
 use Rattle.tighten.proofs.tighten.Statement.{statement}
 use Rattle.tighten.proofs.tighten.Tie as tie
 
@@ -37,7 +38,7 @@ tighten-trains-requires c κs =
     let w : Moved (Tight heldEntriesFrom) b (0 + 16 * pairs b) (p .tighten-pairs .last .0) =
     moved-as (rw (p .before .before .before .copy .ensures) at (p .tighten-pairs .ensures)) (pairs-tightened h (pairs b) 0 b (omega arith) none) in
     let e = moved-shape h w in
-    let o = moved-falling h (falling-pairs (study-non-negative (s .pre)) (study-room (s .pre))) w in
+    let o = moved-falling h (falling-start (study-non-negative (s .pre)) (study-room (s .pre))) w in
     (shape-in-range-kept e h, non-empty-kept e h (study-non-empty (s .pre)), falling-non-negative o, room-more (2 ^ 50) (falling-room o) (omega (arith, h .pairs)))
 
 slice-aggregate-settle : tie.Need-slice-aggregate-settle

@@ -7,7 +7,8 @@ use Rattle.tables.proofs.Study.{same-pairs}
 use Rattle.rewriting.specs.declared.sides.Side.the-variants.{Rows}
 use Rattle.rewriting.proofs.Runs.{room-more}
 use Rattle.rewriting.proofs.Shape.{Moved, none, moved-as, moved-shape, shape-in-range-kept, non-empty-kept, lanes-most}
-use Rattle.tighten.proofs.Falls.{Tight, falling-room, falling-non-negative, falling-pairs, moved-falling, lanes-tightened, pair-tight-by}
+use Rattle.rewriting.proofs.Falls.{Tight, falling-room, falling-non-negative, falling-start, moved-falling, lanes-tightened}
+use Rattle.tighten.proofs.Folds.{pair-tight-by}
 use Rattle.tighten.proofs.tighten_pair.Statement.{statement}
 use Rattle.tighten.proofs.tighten_pair.Tie as tie
 
@@ -24,7 +25,7 @@ tighten-lanes-requires-2 c κs =
     let w : Moved (Tight heldEntriesFrom) b (0 + size b (first b (s .args .k))) (r .tighten-lanes .last .0) =
     moved-as (r .tighten-lanes .ensures) (lanes-tightened h Rows (s .args .k) _ 0 b (s .pre .4) (omega arith) none) in
     let e = moved-shape h w in
-    let o = moved-falling h (falling-pairs (s .pre .2) (s .pre .3)) w in
+    let o = moved-falling h (falling-start (s .pre .2) (s .pre .3)) w in
     (shape-in-range-kept e h, non-empty-kept e h (s .pre .1), falling-non-negative o, room-more (2 ^ 51) (falling-room o) (omega arith), omega (arith, same-pairs e))
 
 same-length : tie.Need-same-length

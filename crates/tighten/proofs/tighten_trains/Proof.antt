@@ -8,10 +8,10 @@ use Rattle.theory.specs.Fold.{iter}
 use Rattle.theory.proofs.Fold.{iter-zero, iter-turn}
 use Rattle.tables.specs.Block.{heldChoicesFrom, trains}
 use Rattle.tables.proofs.Study.{same-trains}
+use Rattle.rewriting.specs.Leasts.{trainTightened}
 use Rattle.rewriting.proofs.Runs.{room-more}
 use Rattle.rewriting.proofs.Shape.{Moved, none, moved-as, moved-shape, shape-in-range-kept, non-empty-kept}
-use Rattle.tighten.specs.Tighten.{trainTightened}
-use Rattle.tighten.proofs.Falls.{Tight, falling-room, falling-trains, moved-falling, trains-tightened}
+use Rattle.rewriting.proofs.Falls.{Tight, falling-room, falling-start, moved-falling, trains-tightened}
 use Rattle.tighten.proofs.tighten_trains.Statement.{statement}
 use Rattle.tighten.proofs.tighten_trains.Tie as tie
 
@@ -40,7 +40,7 @@ tighten-train-requires c κs =
     let e = moved-shape (s .pre .0) w in (
       shape-in-range-kept e (s .pre .0),
       non-empty-kept e (s .pre .0) (s .pre .1),
-      room-more (2 ^ 57) (falling-room (moved-falling (s .pre .0) (falling-trains (s .pre .2) (s .pre .3)) w)) (omega (arith, l .before .trains .ensures, s .pre .0 .trains)),
+      room-more (2 ^ 57) (falling-room (moved-falling (s .pre .0) (falling-start (s .pre .2) (s .pre .3)) w)) (omega (arith, l .before .trains .ensures, s .pre .0 .trains)),
       omega (arith, l .before .trains .ensures, same-trains e),
     )
 

@@ -2,8 +2,8 @@
 use borrow.Author.Needs.{needs}
 use mathlib.Core.Path.{refl}
 use lib.ListN.{length}
-use Rattle.requests.proofs.Ready.{add-ready, tighten-ready, search-ready, save-ready}
-use Rattle.requests.proofs.Outcomes.{add-answers, tighten-answers, certify-answers, save-answers, search-answers}
+use Rattle.requests.proofs.Ready.{study-ready, add-ready, search-ready}
+use Rattle.requests.proofs.Outcomes.{add-answers, tighten-answers, round-answers, certify-answers, save-answers, search-answers}
 use Rattle.requests.proofs.LineCases.{fixed-answers}
 use Rattle.requests.proofs.line.answer_request.Statement.{statement}
 use Rattle.requests.proofs.line.answer_request.Tie as tie
@@ -30,7 +30,7 @@ enum-told : tie.Need-enum-told
 enum-told c = search needs
 
 answer-tighten-requires : tie.Need-answer-tighten-requires
-answer-tighten-requires c κs = let a = rw (c .before .before .enum-told .given .1) at (c .before .before .before .before .before .before .pre) in (a .fits, tighten-ready a)
+answer-tighten-requires c κs = let a = rw (c .before .before .enum-told .given .1) at (c .before .before .before .before .before .before .pre) in (a .fits, study-ready a refl)
 
 enum-known-q-4 : tie.Need-enum-known-q-4
 enum-known-q-4 c = search needs
@@ -48,7 +48,13 @@ enum-told-2 : tie.Need-enum-told-2
 enum-told-2 c = search needs
 
 answer-save-requires : tie.Need-answer-save-requires
-answer-save-requires c κs = let a = rw (c .before .before .enum-told2 .given .1) at (c .before .before .before .before .before .before .pre) in save-ready a
+answer-save-requires c κs = let a = rw (c .before .before .enum-told2 .given .1) at (c .before .before .before .before .before .before .pre) in study-ready a refl
+
+enum-told-3 : tie.Need-enum-told-3
+enum-told-3 c = search needs
+
+answer-round-requires : tie.Need-answer-round-requires
+answer-round-requires c κs = let a = rw (c .before .before .enum-told3 .given .1) at (c .before .before .before .before .before .before .pre) in (a .fits, study-ready a refl)
 
 same-length : tie.Need-same-length
 same-length c = search needs
@@ -134,6 +140,18 @@ returns-7 c =
     rw (c .before .before .before .before .before .enum-told2 .given .1)
     (save-answers (s .args .line .now) (s .args .block .now) (length (s .args .reply .now)) (c .before .before .answer-save .ensures))
 
+same-length-15 : tie.Need-same-length-15
+same-length-15 c = search needs
+
+same-length-16 : tie.Need-same-length-16
+same-length-16 c = search needs
+
+returns-8 : tie.Need-returns-8
+returns-8 c =
+    let s = c .before .before .before .before .before .before .before .before .before .before in
+    let g = c .before .before .before .before .before .before .enum-told3 .given in
+    rw (g .1) (fixed-answers (rw (g .1) at (s .pre)) refl (round-answers (s .args .line .now) (s .args .block .now) (c .before .before .before .answer-round .ensures)))
+
 pub answer-request-spec : {M : Type 1} → statement M
 answer-request-spec =
     tie.close
@@ -152,6 +170,8 @@ answer-request-spec =
     answer-search-requires
     enum-told-2
     answer-save-requires
+    enum-told-3
+    answer-round-requires
     same-length
     same-length-2
     returns
@@ -172,4 +192,7 @@ answer-request-spec =
     returns-6
     same-length-13
     same-length-14
-    returns-7)
+    returns-7
+    same-length-15
+    same-length-16
+    returns-8)

@@ -1,8 +1,8 @@
 -- The run is a lane of the pair: its places are in the block, and there is one at least.
 use borrow.Author.Needs.{needs}
 use Rattle.rewriting.proofs.Shape.{lane, lane-non-empty, project-run}
-use Rattle.tighten.proofs.tighten_lane.Statement.{statement}
-use Rattle.tighten.proofs.tighten_lane.Tie as tie
+use Rattle.rewriting.proofs.leasts.tighten_lane.Statement.{statement}
+use Rattle.rewriting.proofs.leasts.tighten_lane.Tie as tie
 
 lane-requires : tie.Need-lane-requires
 lane-requires c κs = search needs

@@ -8,13 +8,13 @@ use Rattle.theory.specs.Fold.{iter}
 use Rattle.theory.proofs.Fold.{iter-zero, iter-turn}
 use Rattle.tables.specs.Block.{heldEntriesFrom, size}
 use Rattle.tables.proofs.Study.{same-pairs}
 use Rattle.rewriting.specs.Moves.{laneTrain}
+use Rattle.rewriting.specs.Leasts.{laneTightened}
 use Rattle.rewriting.proofs.Runs.{room-more}
 use Rattle.rewriting.proofs.Shape.{Moved, none, moved-as, moved-shape, shape-in-range-kept, non-empty-kept, same-lanes, lanes-most}
-use Rattle.tighten.specs.Tighten.{laneTightened}
-use Rattle.tighten.proofs.Falls.{Tight, falling-room, falling-pairs, moved-falling, lanes-tightened}
-use Rattle.tighten.proofs.tighten_lanes.Statement.{statement}
-use Rattle.tighten.proofs.tighten_lanes.Tie as tie
+use Rattle.rewriting.proofs.Falls.{Tight, falling-room, falling-start, moved-falling, lanes-tightened}
+use Rattle.rewriting.proofs.leasts.tighten_lanes.Statement.{statement}
+use Rattle.rewriting.proofs.leasts.tighten_lanes.Tie as tie
 
 abbrev Inv-loop : tie.InvT-loop
 Inv-loop b₀ k side n x₀ b x = (x ≤ n) × (length b ≡ length b₀) × (b ≡ iter x (laneTightened side k) b₀)
@@ -44,7 +44,7 @@ tighten-lane-requires c κs =
     let n = lanes-most h (s .args .side) (s .args .k) (s .pre .4) in (
       shape-in-range-kept e h,
       non-empty-kept e h (s .pre .1),
-      room-more (2 ^ 57) (falling-room (moved-falling h (falling-pairs (s .pre .2) (s .pre .3)) w)) (omega (arith, l .before .lanes .ensures)),
+      room-more (2 ^ 57) (falling-room (moved-falling h (falling-start (s .pre .2) (s .pre .3)) w)) (omega (arith, l .before .lanes .ensures)),
       omega (arith, same-pairs e),
       omega (arith, l .before .lanes .ensures, same-lanes e h (s .args .k) (omega (arith, h .pairs)) (s .args .side)),
     )

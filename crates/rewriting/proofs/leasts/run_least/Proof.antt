@@ -8,11 +8,11 @@ use native.Mathlib.Omega.{arith}
 use Rattle.theory.specs.Fold.{least as leastOf}
 use Rattle.theory.proofs.Fold.{least-zero, least-more}
 use Rattle.tables.specs.Block.{figure}
 use Rattle.rewriting.specs.declared.sides.PlaceRun.{PlaceRun}
 use Rattle.rewriting.specs.Moves.{runPlace}
-use Rattle.tighten.specs.Tighten.{runLeast}
-use Rattle.tighten.proofs.run_least.Statement.{statement}
-use Rattle.tighten.proofs.run_least.Tie as tie
+use Rattle.rewriting.specs.Leasts.{runLeast}
+use Rattle.rewriting.proofs.leasts.run_least.Statement.{statement}
+use Rattle.rewriting.proofs.leasts.run_least.Tie as tie
 
 abbrev Inv-loop : tie.InvT-loop
 Inv-loop b run least₀ i₀ least i = (i < run .count) × (least .0 ≡ leastOf i (λ j. figure b (runPlace run j)))

@@ -1,7 +1,7 @@
--- A tightening is a chain of moves too, and none of its numbers falls below 0: what goes is the least of the run it comes from.
-use mathlib.Core.Path.{_≡_, refl, sym, ap, _∙_}
+-- What moves a least leaves no number below 0: what goes is the least of the run it comes from. One move, chains of them, and folds over lanes and over trains.
+use mathlib.Core.Path.{_≡_, refl, ap, _∙_}
 use mathlib.Core.List.{List}
-use mathlib.Core.Logic.{⊎-elim, dite, _≢_}
+use mathlib.Core.Logic.{⊎-elim, _≢_}
 use Prim.Native.Nat.{ℕ, zero, suc, _+_, _*_, _-_, _<_, _≤_}
 use native.Mathlib.Decide.{ℕ-discrete}
 use native.Mathlib.Nat.{add-zero, sub-zero, suc-mul, mul-le-mul-right}
@@ -11,18 +11,18 @@ use lib.ListN.{length}
 use lib.Signed.{mag}
 use borrow.Author.Tests.{le-ltb}
 use Rattle.theory.specs.Fold.{iter}
-use Rattle.theory.proofs.Fold.{iter-ind, least-le, least-is}
-use Rattle.tables.specs.Block.{blockLength, maxTrains, maxPairs, maxParts, heldChoicesFrom, heldEntriesFrom, heldChoicePlace, constantPlace, at, nat, figure, trains, pairs, size, first, heldChoice}
-use Rattle.tables.proofs.Study.{SameShape, same-figure, same-trains, same-size, figure-at}
+use Rattle.theory.proofs.Fold.{least-le, least-is}
+use Rattle.tables.specs.Block.{blockLength, heldChoicesFrom, heldEntriesFrom, heldChoicePlace, constantPlace, at, nat, figure, trains, pairs, size, heldChoice}
+use Rattle.tables.proofs.Study.{same-figure, same-size, figure-at}
 use Rattle.rewriting.specs.declared.sides.PlaceRun.{PlaceRun}
 use Rattle.rewriting.specs.declared.sides.Side.{Side}
 use Rattle.rewriting.specs.declared.sides.Side.the-variants.{Rows, Columns}
 use Rattle.rewriting.specs.Moves.{Room, ShapeInRange, runPlace, moveRun, laneTrain, laneRun, choicesRun, NonNegative, NonEmpty}
+use Rattle.rewriting.specs.Leasts.{runLeast, runTightened, laneTightened, trainTightened}
 use Rattle.rewriting.proofs.Runs.{Met, Missed, meet, move-to, move-met, move-other}
-use Rattle.rewriting.proofs.Shape.{shape-in-range-kept, non-empty-kept, unary, same-lane, same-lanes, lane-train, lanes-most, nat-room, BetweenCosts, project-between-costs, between-costs-run, Moved, none, move, moved-as, moved-shape, moved-more, moved-unary, lanes-moved, trains-moved, pairs-moved}
-use Rattle.tighten.specs.Tighten.{runLeast, runTightened, laneTightened, lanesTightened, trainTightened, pairTightened, pairsTightened, trainsTightened, tightened}
+use Rattle.rewriting.proofs.Shape.{unary, same-lane, lane-train, lanes-most, nat-room, BetweenCosts, project-between-costs, between-costs-run, Moved, none, move, moved-shape, lanes-moved, trains-moved}
 
-less : (a l : ℕ) → l ≤ a → pos a +ℤ negℤ (pos l) ≡ pos (a - l)
+pub less : (a l : ℕ) → l ≤ a → pos a +ℤ negℤ (pos l) ≡ pos (a - l)
 less a zero h = rw (add-zero, sub-zero)
 less a (suc l) h = rw (le-ltb a (suc l) h)
 
@@ -51,9 +51,12 @@ nat-mag : (z : ℤ) → nat z ≤ mag z
 nat-mag (pos n) = omega arith
 nat-mag (negsuc n) = omega arith
 
-pub run-least-room : (r : PlaceRun) (c : List ℤ) (h : ℕ) → Room c h → runLeast r c ≤ h
+pub room-figure : (p : ℕ) (c : List ℤ) (h : ℕ) → Room c h → figure c p ≤ h
 unfolding figure
-run-least-room r c h o = omega (arith, run-least-first r c, nat-mag (at c (runPlace r 0)), o .room (runPlace r 0))
+room-figure p c h o = omega (arith, nat-mag (at c p), o .room p)
+
+pub run-least-room : (r : PlaceRun) (c : List ℤ) (h : ℕ) → Room c h → runLeast r c ≤ h
+run-least-room r c h o = omega (arith, run-least-first r c, room-figure (runPlace r 0) c h o)
 
 -- ---- what one tightening leaves at each place
 
@@ -95,19 +98,12 @@ pub record Falling (source high room : ℕ) (c : List ℤ) : Type 0 where
 pub falling-room : {source high room : ℕ} {c : List ℤ} → Falling source high room c → Room c room
 falling-room {c = c} f = record { room = λ p. omega (arith, nat-room (at c p) (figure c p) (f .natural p), f .most p) }
 
-pub falling-non-negative : {room : ℕ} {c : List ℤ} → Falling heldEntriesFrom maxParts room c → NonNegative c
-falling-non-negative f = record { natural = f .natural; entries = f .sources }
+pub falling-non-negative : {source high room : ℕ} {c : List ℤ} → Falling source high room c → NonNegative c
+falling-non-negative f = record { natural = f .natural }
 
-module _ {b : List ℤ} (n : NonNegative b) {h : ℕ} (o : Room b h) where
-  figure-room : (p : ℕ) → figure b p ≤ h
-  figure-room p = omega (arith, nat-room (at b p) (figure b p) (n .natural p), o .room p)
-
-  -- where it begins: at the pairs, and then at the trains
-  pub falling-pairs : Falling heldEntriesFrom maxParts h b
-  falling-pairs = record { natural = n .natural; sources = n .entries; most = figure-room }
-
-  pub falling-trains : Falling heldChoicesFrom h h b
-  falling-trains = record { natural = n .natural; sources = λ p l. figure-room p; most = figure-room }
+-- where it begins
+pub falling-start : {b : List ℤ} → NonNegative b → {h : ℕ} → Room b h → {source : ℕ} → Falling source h h b
+falling-start {b} n {h} o = record { natural = n .natural; sources = λ p l. room-figure p b h o; most = λ p. room-figure p b h o }
 
 pub falling-step : {source high room : ℕ} {r : PlaceRun} {c : List ℤ} → BetweenCosts r → length c ≡ blockLength → source ≤ r .from → r .to < source
     → Falling source high room c → Falling source high (room + high) (runTightened r c)
@@ -155,7 +151,7 @@ moved-raises {b = b} h s o (move {run = run} {c} α l p r w) =
     (tight-cases (project-between-costs s p) c e (moved-falling s o w .natural) (λ z. figure b constantPlace ≤ nat z) constantPlace
     (λ m. absurd (omega (arith, r .below, m .is))) (λ q. rw (← q) (omega arith)) g)
 
--- ---- the folds of a tightening
+-- ---- folds over lanes and over trains
 
 module _ {b : List ℤ} (s : ShapeInRange b) where
   -- a lane goes from entries to a choice
@@ -180,21 +176,7 @@ module _ {b : List ℤ} (s : ShapeInRange b) where
       (λ i x e q. record { is = rw (same-size e i (omega (arith, s .trains))); below = omega arith; above = omega arith })
       m n c l w
 
-  pub pair-tightened : (k n : ℕ) (c : List ℤ) → k < pairs b → Moved (Tight heldEntriesFrom) b n c → Moved (Tight heldEntriesFrom) b (n + 16) (pairTightened k c)
-  unfolding pairTightened
-  pair-tightened k n c h w =
-      let g : k < maxPairs = omega (arith, s .pairs) in
-      let e = same-lanes (moved-shape s w) s k g Rows in
-      let v = lanes-tightened Rows k (size c (first c k)) n c h (omega arith) w in
-      let f = same-lanes (moved-shape s v) s k g Columns in
-      moved-more (omega (arith, lanes-most s Rows k h, lanes-most s Columns k h))
-      (lanes-tightened Columns k _ (n + size c (first c k)) (lanesTightened Rows k c) h (omega arith) v)
-
-  pub pairs-tightened : (m n : ℕ) (c : List ℤ) → m ≤ pairs b → Moved (Tight heldEntriesFrom) b n c
-      → Moved (Tight heldEntriesFrom) b (n + 16 * m) (iter m pairTightened c)
-  pairs-tightened m n c l w = pairs-moved s pairTightened pair-tightened m n c l w
-
--- ---- what the trains are left with
+-- ---- what a train is left with
 
 -- a choice of train i, as many as b says, that costs nothing in c
 pub record Zero (b c : List ℤ) (i : ℕ) : Type 0 where
@@ -206,7 +188,7 @@ pub zero-as : {b d c : List ℤ} {i : ℕ} → size d i ≡ size b i → Zero d 
 zero-as e z = record { which = z .which; below = rw e at (z .below); is = z .is }
 
 -- the train whose turn it is gets one, and the others keep theirs
-train-zero : {c : List ℤ} → ShapeInRange c → NonEmpty c → ((p : ℕ) → at c p ≡ pos (figure c p)) → (i : ℕ) → i < trains c
+pub train-zero : {c : List ℤ} → ShapeInRange c → NonEmpty c → ((p : ℕ) → at c p ≡ pos (figure c p)) → (i : ℕ) → i < trains c
     → Zero c (trainTightened i c) i × ((j : ℕ) → j < trains c → j ≢ i → Zero c c j → Zero c (trainTightened i c) j)
 train-zero {c} s o natural i h =
     let f = project-between-costs s (unary i h) in
@@ -227,35 +209,3 @@ train-zero {c} s o natural i h =
         );
       },
     )
-
-pub trains-zero : {b : List ℤ} {high room : ℕ} → ShapeInRange b → NonEmpty b → Falling heldChoicesFrom high room b
-    → (m : ℕ) → m ≤ trains b → (i : ℕ) → i < m → Zero b (iter m trainTightened b) i
-trains-zero {b} s o f m h = iter-ind So m trainTightened b (none, λ i l. absurd (omega arith)) turn .1
-  where
-    So : ℕ → List ℤ → Type 0
-    So n x = Moved (Tight heldChoicesFrom) b n x × ((i : ℕ) → i < n → Zero b x i)
-
-    turn : (n : ℕ) (x : List ℤ) → n < m → So n x → So (n + 1) (trainTightened n x)
-    turn n x l (w, z) =
-        let e = moved-shape s w in
-        let c : n < maxTrains = omega (arith, s .trains) in
-        let t = train-zero (shape-in-range-kept e s) (non-empty-kept e s o) (moved-falling s f w .natural) n (omega (arith, same-trains e)) in
-        let r : Tight heldChoicesFrom (choicesRun b n) x (pos (runLeast (choicesRun x n) x)) =
-        record { is = rw (same-size e n c); below = omega arith; above = omega arith } in
-        (moved-as (sym (tight-is _ x)) (moved-unary s w (n + 1) n _ (omega arith) (omega arith) r), zeros e c t)
-      where
-        zeros : SameShape b x → n < maxTrains
-            → Zero x (trainTightened n x) n × ((j : ℕ) → j < trains x → j ≢ n → Zero x x j → Zero x (trainTightened n x) j)
-            → (i : ℕ) → i < n + 1 → Zero b (trainTightened n x) i
-        zeros e c t i q =
-            dite (ℕ-discrete i n) (λ (r : i ≡ n). rw r (zero-as (same-size e n c) (t .0)))
-            (λ r. let d = same-size e i (omega arith) in zero-as d (t .1 i (omega (arith, same-trains e)) r (zero-as (sym d) (z i (omega arith)))))
-
--- a pair, and the whole, by their calls
-pub pair-tight-by : (k : ℕ) (b : List ℤ) {c d : List ℤ} → c ≡ lanesTightened Rows k b → d ≡ lanesTightened Columns k c → d ≡ pairTightened k b
-unfolding pairTightened
-pair-tight-by k b p q = q ∙ rw p
-
-pub tightened-by : (b : List ℤ) {t p d : List ℤ} → t ≡ b → p ≡ pairsTightened t → d ≡ trainsTightened p → d ≡ tightened b
-unfolding tightened
-tightened-by b e f g = g ∙ rw (f, e)

@@ -8,11 +8,11 @@ use lib.Signed.{mag}
 use mir.Syntax.{w64}
 use mir.Val.{toZ}
 use mir.ValLaws.{toZ-pos}
 use Rattle.rewriting.specs.Moves.{moveRun}
 use Rattle.rewriting.proofs.Runs.{room-more}
-use Rattle.tighten.proofs.Falls.{run-least-room, tight-is}
-use Rattle.tighten.proofs.tighten_run.Statement.{statement}
-use Rattle.tighten.proofs.tighten_run.Tie as tie
+use Rattle.rewriting.proofs.Falls.{run-least-room, tight-is}
+use Rattle.rewriting.proofs.leasts.tighten_run.Statement.{statement}
+use Rattle.rewriting.proofs.leasts.tighten_run.Tie as tie
 
 run-least-requires : tie.Need-run-least-requires
 run-least-requires c κs = search needs
@@ -21,7 +21,9 @@ number-requires : tie.Need-number-requires
 number-requires c κs = search needs
 
 small : (c : tie.After-number) → c .number .result ≤ 2 ^ 57
-small c = let s = c .before .before .before .before in rw (c .number .ensures, c .before .before .run-least .ensures) (run-least-room (s .args .run) (s .args .b .now) (2 ^ 57) (s .pre .2))
+small c =
+    let s = c .before .before .before .before in
+    omega (arith, c .number .ensures, c .before .before .run-least .ensures, run-least-room (s .args .run) (s .args .b .now) (2 ^ 57) (s .pre .2))
 
 least : (c : tie.After-number) → toZ w64 (c .number .result) ≡ pos (c .number .result)
 least c = toZ-pos w64 (c .number .result) (omega (arith, small c))

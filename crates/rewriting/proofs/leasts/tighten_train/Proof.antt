@@ -1,8 +1,8 @@
 -- The run is the choices of the train: its places are in the block, and there is one at least.
 use borrow.Author.Needs.{needs}
 use Rattle.rewriting.proofs.Shape.{unary, project-run}
-use Rattle.tighten.proofs.tighten_train.Statement.{statement}
-use Rattle.tighten.proofs.tighten_train.Tie as tie
+use Rattle.rewriting.proofs.leasts.tighten_train.Statement.{statement}
+use Rattle.rewriting.proofs.leasts.tighten_train.Tie as tie
 
 choices-requires : tie.Need-choices-requires
 choices-requires c κs = search needs

@@ -1,0 +1,4 @@
+-- The rule.
+pub mod Directional
+-- What only private functions ask: how high costs may be on the way.
+pub mod Heights
