@@ -88,7 +88,7 @@ fn inputs_of(size: &str, study: &Study) -> Vec<Input> {
         ("save", &held, b"07".to_vec(), "01"),
         ("round", &held, b"08".to_vec(), "88"),
         ("refused-character", &held, with_end(&longest, b"G"), "FF01"),
-        ("refused-cost", &held, with_end(&longest, b"FFFFFF"), "FF07"),
+        ("refused-cost", &held, with_end(&longest, b"FFFFFE"), "FF07"),
         ("refused-kind", &held, b"10".to_vec(), "FF03"),
     ];
     let input = |(name, block, line, reply): (&str, &Vec<i64>, Vec<u8>, &'static str)| Input {
@@ -109,7 +109,7 @@ fn full_study(seed: u64, top: i64) -> Study {
     keys.sort();
     let scale = 7;
     let mut costs = |rows: usize| {
-        let loaded = repeat_with(|| random.between(0, top)).take(8 * rows).collect();
+        let loaded = repeat_with(|| Some(random.between(0, top))).take(8 * rows).collect();
         Costs::new(rows, 8, loaded, scale)
     };
     let trains = (0..24).map(|_| costs(1)).collect();
@@ -133,7 +133,9 @@ fn block_of(study: &Study) -> Vec<i64> {
 
 /// One point more for the last choice of the last train that has room for it.
 fn add_line(study: &Study) -> Vec<u8> {
-    let room = |costs: &Costs| costs.loaded.iter().rposition(|&cost| cost < 1_000_000);
+    let room = |costs: &Costs| {
+        costs.entries.iter().rposition(|entry| entry.is_some_and(|cost| cost.loaded < 1_000_000))
+    };
     let places = study.trains.iter().enumerate().rev();
     let (train, choice) =
         places.filter_map(|(train, costs)| Some((train, room(costs)?))).next().expect("some cost has room");
@@ -150,7 +152,7 @@ fn shift_line(study: &Study) -> Vec<u8> {
 /// The weights of a mixture of random plans: their sums agree.
 fn certify_line(study: &Study) -> Vec<u8> {
     let random = &mut Random::new(SEED);
-    let zeros = |costs: &Costs| vec![0; costs.held.len()];
+    let zeros = |costs: &Costs| vec![0; costs.entries.len()];
     let mut single: Vec<Vec<i64>> = study.trains.iter().map(zeros).collect();
     let mut joint: Vec<Vec<i64>> = study.pairs.iter().map(|pair| zeros(&pair.costs)).collect();
     for _ in 0..PLANS {

@@ -1,12 +1,14 @@
 //! Sessions of calls from a seed: every kind, every refusal, boundaries and damage.
 
-use crate::calls::{Call, Setting};
+use crate::calls::{Call, Outcome, Setting};
 use crate::lines::{self, LONGEST_LINE, MOVES};
-use crate::model::{self, Costs, Pair, Study, BLOCK_LENGTH, PAIRS, TOP};
+use crate::model::{self, Cost, Costs, Pair, Study, BLOCK_LENGTH, FORBIDDEN, TOP};
 use crate::operations::{self, Certificate, Shift};
 use crate::random::Random;
 use crate::rewriting::Rewriting;
 use crate::search;
+use crate::studies::{clique, forbid, mispair, pairs, raise};
+use crate::weights::{couple, mixture, unbalance, uniform};
 use crate::{LEAST_BUFFER, LONGEST_REPLY};
 use std::iter::repeat_with;
 
@@ -89,13 +91,14 @@ impl Session {
     }
 
     fn setting(&mut self, block: &[i64]) -> Setting {
-        match self.random.below(7) {
+        match self.random.below(9) {
             0 => {
                 let near = BLOCK_LENGTH - 1 + 2 * self.random.below(2);
                 let far = self.random.below(2 * BLOCK_LENGTH);
                 Setting::Length(self.random.pick(&[0, 1, near, near, far, BLOCK_LENGTH]))
             }
             1 | 2 => Setting::Edited(vec![self.strange_place()]),
+            7 | 8 => Setting::Edited(self.strange_entry(block)),
             choice => {
                 let present = model::decode(block).ok().flatten();
                 let mut study = match present {
@@ -120,6 +123,40 @@ impl Session {
         (self.random.below(end), self.random.pick(&limits) + self.random.between(-1, 1))
     }
 
+    /// Numbers about −1 in c0, or at one entry, used or not, of H, of T or of both.
+    fn strange_entry(&mut self, block: &[i64]) -> Vec<(usize, i64)> {
+        let random = &mut self.random;
+        let number = random.pick(&[-2, -1, -1, -1, 0]);
+        if random.chance(8) {
+            return vec![(3, number)];
+        }
+        let places = (124..BLOCK_LENGTH).filter(|&place| block[place] == FORBIDDEN);
+        let forbidden: Vec<usize> = places.collect();
+        if number == 0 && !forbidden.is_empty() {
+            return vec![(random.pick(&forbidden), number)];
+        }
+        let study = model::decode(block).ok().flatten().filter(|_| random.chance(75));
+        let (loaded, to_held) = match (study, random.chance(50)) {
+            (Some(study), false) if !study.pairs.is_empty() => {
+                let pair = random.below(study.pairs.len());
+                let [a, b] = study.pairs[pair].trains.map(|train| random.below(study.size(train)));
+                (508 + 64 * pair + 8 * a + b, 3_580 - 508)
+            }
+            (Some(study), _) => {
+                let train = random.below(study.trains.len());
+                (124 + 8 * train + random.below(study.size(train)), 316 - 124)
+            }
+            (None, false) => (508 + random.below(48 * 64), 3_580 - 508),
+            (None, true) => (124 + random.below(24 * 8), 316 - 124),
+        };
+        let held = loaded + to_held;
+        match random.below(3) {
+            0 => vec![(loaded, number)],
+            1 => vec![(held, number)],
+            _ => vec![(loaded, number), (held, number)],
+        }
+    }
+
     /// Gives the study a c0 and a T that have nothing to do with H.
     fn foreign(&mut self, study: &mut Study) {
         let shape = self.random.below(5);
@@ -129,8 +166,8 @@ impl Session {
             3 => &[TOP / 2, TOP / 2 + 1, TOP - 1, TOP],
             _ => &[0, 5, 1_000, 999_999, 71_999_999_999, 123_456_789],
         };
-        for cost in study.tables_mut().flat_map(|costs| &mut costs.held) {
-            *cost = self.random.pick(palette);
+        for cost in study.tables_mut().flat_map(Costs::permitted_mut) {
+            cost.held = self.random.pick(palette);
         }
         if shape == 0 && !study.pairs.is_empty() {
             raise(&mut self.random, study);
@@ -187,6 +224,9 @@ impl Session {
 
     fn study(&mut self) -> Study {
         let random = &mut self.random;
+        if random.chance(5) {
+            return clique(random);
+        }
         let full = self.most_trains == 24 && random.chance(40);
         let n = if full { 24 } else { 1 + random.below(self.most_trains) };
         let sizes: Vec<usize> =
@@ -202,20 +242,30 @@ impl Session {
                 true => 0,
                 false => random.between(0, top),
             };
-            Costs::new(rows, columns, repeat_with(cost).take(rows * columns).collect(), scale)
+            let loaded = repeat_with(cost).map(Some).take(rows * columns).collect();
+            Costs::new(rows, columns, loaded, scale)
         };
         let trains = sizes.iter().map(|&size| costs(random, 1, size)).collect();
         let keys = pairs(random, n, full);
         let pair = |[i, j]: [usize; 2]| Pair { trains: [i, j], costs: costs(random, sizes[i], sizes[j]) };
-        Study { scale, constant: 0, trains, pairs: keys.into_iter().map(pair).collect() }
+        let mut study = Study { scale, constant: 0, trains, pairs: keys.into_iter().map(pair).collect() };
+        (0..random.pick(&[0, 0, 0, 1, 1, 2])).for_each(|_| forbid(random, &mut study));
+        study
     }
 
     fn add(&mut self, study: &Study) -> Fields {
         let random = &mut self.random;
-        let train = random.below(study.trains.len());
-        let choice = random.below(study.size(train));
-        let room = 1_000_000 - study.trains[train].loaded[choice];
-        let room_held = (TOP - study.trains[train].held[choice]) / study.scale;
+        let (train, choice) = match random.chance(25) {
+            true => highest(study),
+            false => {
+                let train = random.below(study.trains.len());
+                (train, random.below(study.size(train)))
+            }
+        };
+        let none = Cost { loaded: 0, held: 0 };
+        let Cost { loaded, held } = study.trains[train].entries[choice].unwrap_or(none);
+        let room = 1_000_000 - loaded;
+        let room_held = (TOP - held) / study.scale;
         let points = match random.below(16) {
             0 => room,
             1 => room + 1,
@@ -237,7 +287,11 @@ impl Session {
         let mut rewriting = Rewriting::of(study);
         let random = &mut self.random;
         match random.below(10) {
-            0..=2 => (0..random.pick(&[1, 1, 2, 10])).for_each(|_| rewriting.sweep()),
+            0..=2 => {
+                rewriting.flood(random.pick(&[0, 0, 100, TOP / 50]));
+                (0..random.pick(&[1, 1, 2, 10])).for_each(|_| rewriting.sweep());
+            }
+            5 | 6 if !study.permits_all() => rewriting.flood(TOP - random.pick(&[0, 0, 0, 1, TOP / 2])),
             3 | 4 => (0..random.between(1, 3)).for_each(|_| rewriting.give_back(random)),
             _ => (0..random.below(2 + 4 * study.trains.len())).for_each(|_| rewriting.step(random)),
         }
@@ -261,36 +315,15 @@ impl Session {
         rewriting.circle(number, side, lift - random.pick(&[low - 1, low, high, high + 1]));
     }
 
-    /// Weights whose sums mostly agree: a mixture of plans, perhaps with its pairs coupled anew.
+    /// Weights whose sums mostly agree: a mixture of plans, perhaps with its pairs coupled anew, or the same weight for
+    /// each usable choice of a train.
     fn certificate(&mut self, study: &Study) -> Certificate {
         let random = &mut self.random;
-        let mut weights: Vec<i64> = (0..random.between(1, 5))
-            .map(|_| if random.chance(80) { 1 } else { random.between(1, 19_000) })
-            .collect();
-        if random.chance(10) {
-            weights.push(random.pick(&[100_000, 100_000, 100_001]) - weights.iter().sum::<i64>());
-        }
-        let zeros = |costs: &Costs| vec![0; costs.held.len()];
-        let mut certificate = Certificate {
-            whole: weights.iter().sum(),
-            single: study.trains.iter().map(zeros).collect(),
-            joint: study.pairs.iter().map(|pair| zeros(&pair.costs)).collect(),
+        let mut certificate = match random.chance(if study.permits_all() { 10 } else { 40 }) {
+            true => uniform(study),
+            false => mixture(random, study),
         };
-        let best = if random.chance(50) { search::walk(study, 3_000).best } else { None };
-        for weight in weights {
-            let plan: Vec<usize> = match &best {
-                Some(best) if random.chance(80) => best.plan.clone(),
-                _ => study.trains.iter().map(|costs| random.below(costs.columns)).collect(),
-            };
-            for (w, &choice) in certificate.single.iter_mut().zip(&plan) {
-                w[choice] += weight;
-            }
-            for (z, pair) in certificate.joint.iter_mut().zip(&study.pairs) {
-                let [a, b] = pair.trains.map(|train| plan[train]);
-                z[a * pair.costs.columns + b] += weight;
-            }
-        }
-        if random.chance(30) {
+        if random.chance(30) || certificate.joint.iter().flatten().all(|&weight| weight == 0) {
             couple(random, study, &mut certificate);
         }
         if random.chance(20) {
@@ -325,7 +358,7 @@ impl Session {
         let limits: &[i64] = match *width {
             1 => &[1, 8, 24, 48, 255],
             2 => &[1, 1_000, 0xFFFF],
-            3 => &[1, 100_000, 1_000_000, 0xFF_FFFF],
+            3 => &[1, 100_000, 1_000_000, lines::FORBIDDEN, lines::FORBIDDEN],
             // Budgets that are in range come from `budget`, which bounds the work.
             4 => &[0, 10_000_002, 0xFFFF_FFFF],
             _ => &[0, *MOVES.start(), *MOVES.end(), TOP, i64::MAX >> 16],
@@ -372,106 +405,29 @@ impl Session {
     }
 }
 
-/// The pairs of n trains, ascending: any (if full, as many as there may be), or of a shape that matters to rounds.
-fn pairs(random: &mut Random, n: usize, full: bool) -> Vec<[usize; 2]> {
-    let most = *PAIRS.end() as usize;
-    let mut trains: Vec<usize> = (0..n).collect();
-    let mut keys: Vec<[usize; 2]> = match random.below(10) {
-        // Each train has at most one partner of lower number.
-        0..=2 => {
-            let mut keys: Vec<_> = (1..n).map(|j| [random.below(j), j]).collect();
-            keys.retain(|_| random.chance(85));
-            keys
-        }
-        // A tree, its trains numbered anyhow.
-        3 => {
-            random.shuffle(&mut trains);
-            (1..n).map(|place| [trains[random.below(place)], trains[place]]).collect()
-        }
-        // All pairs of some trains.
-        4 => {
-            random.shuffle(&mut trains);
-            trains.truncate(random.pick(&[3, 4, 10]));
-            trains
-                .iter()
-                .enumerate()
-                .flat_map(|(place, &j)| trains[..place].iter().map(move |&i| [i, j]))
-                .collect()
-        }
-        // All pairs of some second trains.
-        5 => (0..2).map(|_| random.below(n)).flat_map(|j| (0..j).map(move |i| [i, j])).collect(),
-        shape => {
-            let mut keys: Vec<_> = (0..n).flat_map(|j| (0..j).map(move |i| [i, j])).collect();
-            random.shuffle(&mut keys);
-            let all = keys.len().min(most);
-            keys.truncate(if full || shape < 8 { all } else { random.below(all + 1) });
-            keys
-        }
-    };
-    keys.iter_mut().for_each(|pair| pair.sort());
-    keys.sort();
-    keys.dedup();
-    keys.truncate(most);
-    keys
-}
-
-/// Raises numbers so that a round passes L where a pair takes its second train's costs, and comes down again where
-/// its rows' leasts move.
-fn raise(random: &mut Random, study: &mut Study) {
-    let number = random.below(study.pairs.len());
-    let pair = &mut study.pairs[number];
-    let costs = &mut study.trains[pair.trains[1]];
-    let choice = random.below(costs.columns);
-    costs.take(0, 0, -TOP / 10);
-    costs.held[choice] += TOP / 2;
-    pair.costs.take(1, choice, -TOP / 20 * 9);
-}
-
-/// Gives each pair new weights with the same sums.
-fn couple(random: &mut Random, study: &Study, certificate: &mut Certificate) {
-    for (z, pair) in certificate.joint.iter_mut().zip(&study.pairs) {
-        let [mut rows, mut columns] = pair.trains.map(|train| certificate.single[train].clone());
-        let mut cells: Vec<usize> = (0..z.len()).collect();
-        random.shuffle(&mut cells);
-        for cell in cells {
-            let (a, b) = (cell / columns.len(), cell % columns.len());
-            z[cell] = rows[a].min(columns[b]);
-            rows[a] -= z[cell];
-            columns[b] -= z[cell];
+/// The calls of some sessions over every block, each with the block that it is given, its edits made, and what the
+/// reference leaves.
+pub fn sessions(count: u64, mut see: impl FnMut(&Call, &[i64], &Outcome)) {
+    for seed in 0..count {
+        let mut session = Session::new(seed, Reach::Blocks);
+        let mut block = vec![0; BLOCK_LENGTH];
+        for _ in 0..50 {
+            let call = session.call(&block);
+            let mut given = block.clone();
+            if let Setting::Edited(edits) = &call.setting {
+                edits.iter().for_each(|&(place, value)| given[place] = value);
+            }
+            let outcome = call.run(crate::answer, &mut block);
+            see(&call, &given, &outcome);
         }
     }
 }
 
-/// Moves one unit of weight to another choice of a train, or along a row or a column of a pair.
-fn unbalance(random: &mut Random, study: &Study, certificate: &mut Certificate) {
-    let Certificate { single, joint, .. } = certificate;
-    let (weights, costs) = if joint.is_empty() || random.chance(30) {
-        let train = random.below(single.len());
-        (&mut single[train], &study.trains[train])
-    } else {
-        let number = random.below(joint.len());
-        (&mut joint[number], &study.pairs[number].costs)
-    };
-    let side = if costs.rows == 1 { 0 } else { random.below(2) };
-    let cells: Vec<usize> = costs.line(side, random.below([costs.rows, costs.columns][side])).collect();
-    let [from, to] = [random.pick(&cells), random.pick(&cells)];
-    if weights[from] > 0 {
-        weights[from] -= 1;
-        weights[to] += 1;
-    }
-}
-
-/// Gives one pair trains that it must not have.
-fn mispair(random: &mut Random, study: &mut Study) {
-    if study.pairs.is_empty() {
-        return;
-    }
-    let number = random.below(study.pairs.len());
-    let any = study.pairs[random.below(study.pairs.len())].trains;
-    let last = study.pairs[number.saturating_sub(1)].trains;
-    let [i, j] = study.pairs[number].trains;
-    let absent = study.trains.len();
-    study.pairs[number].trains = random.pick(&[any, last, [j, i], [j, j], [i, absent]]);
+/// The train and the choice with the highest cost in T.
+fn highest(study: &Study) -> (usize, usize) {
+    let choices = study.trains.iter().enumerate();
+    let places = choices.flat_map(|(train, costs)| (0..costs.columns).map(move |choice| (train, choice)));
+    places.max_by_key(|&(train, choice)| study.trains[train].held(choice)).expect("sizes are at least 1")
 }
 
 /// The places where the wanted block differs.
@@ -496,11 +452,12 @@ fn fields(width: usize, numbers: &[i64]) -> impl Iterator<Item = (usize, i64)> +
 pub fn load_fields(study: &Study) -> Fields {
     let mut line = vec![(1, 1), (1, study.trains.len() as i64), (2, study.scale)];
     line.extend(study.trains.iter().map(|costs| (1, costs.columns as i64)));
-    line.extend(study.trains.iter().flat_map(|costs| fields(3, &costs.loaded)));
+    let costs = |costs| lines::cost_fields(costs).map(|field| (3, field));
+    line.extend(study.trains.iter().flat_map(costs));
     line.push((1, study.pairs.len() as i64));
-    for Pair { trains, costs } in &study.pairs {
-        line.extend(trains.map(|train| (1, train as i64)));
-        line.extend(fields(3, &costs.loaded));
+    for pair in &study.pairs {
+        line.extend(pair.trains.map(|train| (1, train as i64)));
+        line.extend(costs(&pair.costs));
     }
     line
 }

@@ -12,8 +12,10 @@ pub mod random;
 pub mod rewriting;
 pub mod saves;
 pub mod search;
+pub mod studies;
+pub mod weights;
 
-use lines::{Kind, LONGEST_LINE};
+use lines::{Fields, Kind, LONGEST_LINE};
 use model::{Refusal, Study, BLOCK_LENGTH};
 use std::error::Error;
 use std::io::{self, BufRead, Write};
@@ -52,54 +54,45 @@ fn respond(line: &[u8], block: &mut [i64]) -> Result<Vec<u8>, Refusal> {
     let (kind, fields) = lines::open(line)?;
     let present = || state.ok_or(Refusal::Fresh);
     match kind {
-        Kind::Load => {
-            let study = lines::load(fields)?;
-            Ok(hold(0x81, &study, block))
-        }
-        Kind::Add => {
-            let mut study = present()?;
-            let add = lines::add(fields, &study)?;
-            operations::add(&mut study, &add)?;
-            Ok(hold(0x82, &study, block))
-        }
-        Kind::Shift => {
-            let mut study = present()?;
-            let shift = lines::shift(fields, &study)?;
-            operations::shift(&mut study, &shift)?;
-            Ok(hold(0x83, &study, block))
-        }
-        Kind::Tighten => {
-            let mut study = present()?;
+        Kind::Load => Ok(hold(0x81, &lines::load(fields)?, block)),
+        Kind::Add => rewrite(0x82, present()?, block, |study| {
+            let add = lines::add(fields, study)?;
+            operations::add(study, &add)
+        }),
+        Kind::Shift => rewrite(0x83, present()?, block, |study| {
+            let shift = lines::shift(fields, study)?;
+            operations::shift(study, &shift)
+        }),
+        Kind::Tighten => rewrite(0x84, present()?, block, |study| {
             fields.end()?;
-            operations::tighten(&mut study)?;
-            Ok(hold(0x84, &study, block))
-        }
+            operations::tighten(study)
+        }),
+        // "Kind 08, no fields, is a directional round. ... The reply is 88 with constant and bound; 12 applies."
+        Kind::Round => rewrite(0x88, present()?, block, |study| {
+            fields.end()?;
+            operations::round(study)
+        }),
         // "Certify and search change nothing in the block."
-        Kind::Certify => {
-            let study = present()?;
-            let certificate = lines::certificate(fields, &study)?;
-            let ceiling = operations::ceiling(&study, &certificate)?;
-            Ok(ceiling_reply(&study, &certificate, ceiling))
-        }
-        Kind::Search => {
-            let study = present()?;
-            let budget = lines::budget(fields)?;
-            Ok(walk_reply(&study, &search::walk(&study, budget)))
-        }
+        Kind::Certify => certify(&present()?, fields),
+        Kind::Search => search(&present()?, fields),
         // "Kind 07, with no fields, answers with a load line for H." It changes nothing in the block.
         Kind::Save => {
             let study = present()?;
             fields.end()?;
             Ok(lines::saved(&study))
         }
-        // "Kind 08, no fields, is a directional round. ... The reply is 88 with constant and bound; 12 applies."
-        Kind::Round => {
-            let mut study = present()?;
-            fields.end()?;
-            operations::round(&mut study)?;
-            Ok(hold(0x88, &study, block))
-        }
     }
+}
+
+/// Holds the study, changed as the line says.
+fn rewrite(
+    code: u8,
+    mut study: Study,
+    block: &mut [i64],
+    change: impl FnOnce(&mut Study) -> Result<(), Refusal>,
+) -> Result<Vec<u8>, Refusal> {
+    change(&mut study)?;
+    Ok(hold(code, &study, block))
 }
 
 /// Writes the study to the block. "Kinds 01 to 04: 81 to 84, c0 in parts (6), bound in points (6)." So does 88.
@@ -112,17 +105,26 @@ fn hold(code: u8, study: &Study, block: &mut [i64]) -> Vec<u8> {
 }
 
 /// "Certify: 85, 01 if reached else 00, E (8), W (3)." Reached means E = W × c0.
-fn ceiling_reply(study: &Study, certificate: &operations::Certificate, ceiling: i64) -> Vec<u8> {
+fn certify(study: &Study, fields: Fields) -> Result<Vec<u8>, Refusal> {
+    let certificate = lines::certificate(fields, study)?;
+    let ceiling = operations::ceiling(study, &certificate)?;
     let reached = ceiling == certificate.whole * study.constant;
     let mut bytes = vec![0x85, reached as u8];
     lines::put(&mut bytes, 8, ceiling);
     lines::put(&mut bytes, 3, certificate.whole);
-    bytes
+    Ok(bytes)
 }
 
-/// "Search: 86, 01 ended or 00 spent, count (4), cost (6), one byte a train."
-fn walk_reply(study: &Study, walk: &search::Walk) -> Vec<u8> {
-    let mut bytes = vec![0x86, walk.ended as u8];
+/// "Search: 86, 01 ended or 00 spent, count (4), cost (6), one byte a train." "A search that ends without a plan says
+/// 02, with cost and plan FF."
+fn search(study: &Study, fields: Fields) -> Result<Vec<u8>, Refusal> {
+    let walk = search::walk(study, lines::budget(fields)?);
+    let flag = match (walk.ended, &walk.best) {
+        (false, _) => 0,
+        (true, Some(_)) => 1,
+        (true, None) => 2,
+    };
+    let mut bytes = vec![0x86, flag];
     lines::put(&mut bytes, 4, walk.count);
     match &walk.best {
         Some(best) => {
@@ -132,7 +134,7 @@ fn walk_reply(study: &Study, walk: &search::Walk) -> Vec<u8> {
         // "With no plan yet (budget below n), cost and plan are all FF."
         None => bytes.resize(bytes.len() + 6 + study.trains.len(), 0xFF),
     }
-    bytes
+    Ok(bytes)
 }
 
 /// "A program reads standard input, starts fresh, and prints a reply line for each input line; a

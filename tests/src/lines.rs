@@ -11,6 +11,8 @@ pub const MOVES: RangeInclusive<i64> = -1_000_000_000_000..=1_000_000_000_000;
 /// W.
 const WHOLES: RangeInclusive<i64> = 1..=100_000;
 const BUDGETS: RangeInclusive<i64> = 1..=10_000_000;
+/// A forbidden entry, as a load says it.
+pub const FORBIDDEN: i64 = 0xFF_FFFF;
 
 #[derive(Clone, Copy)]
 pub enum Kind {
@@ -49,8 +51,14 @@ impl Fields {
         range.contains(&number).then_some(number).ok_or(no)
     }
 
-    fn costs(&mut self, count: usize) -> Result<Vec<i64>, Refusal> {
-        (0..count).map(|_| self.judged(3, COSTS, Refusal::Cost)).collect()
+    /// The costs of a load, `None` where an entry is forbidden.
+    fn costs(&mut self, count: usize) -> Result<Vec<Option<i64>>, Refusal> {
+        let mut one = || match self.number(3)? {
+            FORBIDDEN => Ok(None),
+            points if COSTS.contains(&points) => Ok(Some(points)),
+            _ => Err(Refusal::Cost),
+        };
+        (0..count).map(|_| one()).collect()
     }
 
     /// Lifts or moves: 6 bytes each, "two's complement, in parts".
@@ -87,8 +95,9 @@ pub fn put(bytes: &mut Vec<u8>, width: usize, number: i64) {
     bytes.extend_from_slice(&number.to_be_bytes()[8 - width..]);
 }
 
-fn put_all(bytes: &mut Vec<u8>, width: usize, numbers: &[i64]) {
-    numbers.iter().for_each(|&number| put(bytes, width, number));
+/// The fields of a load that give these costs.
+pub fn cost_fields(costs: &Costs) -> impl Iterator<Item = i64> + '_ {
+    costs.entries.iter().map(|entry| entry.map_or(FORBIDDEN, |cost| cost.loaded))
 }
 
 /// The kind and the fields: 2, then 1, then 3.
@@ -152,12 +161,12 @@ pub fn saved(study: &Study) -> Vec<u8> {
     put(&mut bytes, 2, study.scale);
     bytes.extend(study.trains.iter().map(|costs| costs.columns as u8));
     for costs in &study.trains {
-        put_all(&mut bytes, 3, &costs.loaded);
+        cost_fields(costs).for_each(|field| put(&mut bytes, 3, field));
     }
     bytes.push(study.pairs.len() as u8);
     for Pair { trains, costs } in &study.pairs {
         bytes.extend(trains.map(|train| train as u8));
-        put_all(&mut bytes, 3, &costs.loaded);
+        cost_fields(costs).for_each(|field| put(&mut bytes, 3, field));
     }
     bytes
 }
@@ -167,7 +176,7 @@ pub fn add(mut fields: Fields, study: &Study) -> Result<Add, Refusal> {
     let train = fields.number(1)? as usize;
     let costs = study.trains.get(train).ok_or(Refusal::Absent)?;
     let choice = fields.number(1)? as usize;
-    costs.loaded.get(choice).ok_or(Refusal::Absent)?;
+    costs.entries.get(choice).ok_or(Refusal::Absent)?;
     let points = fields.judged(3, COSTS, Refusal::Cost)?;
     fields.end()?;
     Ok(Add { train, choice, points })
@@ -187,7 +196,7 @@ pub fn shift(mut fields: Fields, study: &Study) -> Result<Shift, Refusal> {
 /// "W (3), weights w_i(a) (3 each), weights z_ij(a,b) (3 each), ordered as in a load."
 pub fn certificate(mut fields: Fields, study: &Study) -> Result<Certificate, Refusal> {
     let whole = fields.judged(3, WHOLES, Refusal::Whole)?;
-    let mut weights = |costs: &Costs| fields.numbers(costs.held.len(), 3);
+    let mut weights = |costs: &Costs| fields.numbers(costs.entries.len(), 3);
     let single = study.trains.iter().map(&mut weights).collect::<Result<_, _>>()?;
     let joint = study.pairs.iter().map(|pair| weights(&pair.costs)).collect::<Result<_, _>>()?;
     fields.end()?;

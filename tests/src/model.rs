@@ -13,6 +13,8 @@ pub const COSTS: RangeInclusive<i64> = 0..=1_000_000;
 pub const TOP: i64 = 72_000_000_000;
 /// c0 and held costs.
 pub const PARTS: RangeInclusive<i64> = 0..=TOP;
+/// What H and T hold at a forbidden entry.
+pub const FORBIDDEN: i64 = -1;
 
 /// The table of declined lines, by number. Number 17 has no reply and is none of these.
 #[derive(Clone, Copy, Debug, PartialEq, Eq)]
@@ -34,22 +36,30 @@ pub enum Refusal {
     Sums = 14,
     Budget = 15,
     Block = 16,
+    /// "A weight above 0 on a forbidden entry, after 14."
+    ForbiddenWeight = 18,
 }
 
-/// The costs of a train (one row) or of a pair (a row for each a): H in points, T in parts.
+/// The cost of a permitted entry: H in points, T in parts.
+#[derive(Clone, Copy, PartialEq, Eq)]
+pub struct Cost {
+    pub loaded: i64,
+    pub held: i64,
+}
+
+/// The entries of a train (one row) or of a pair (a row for each a). A forbidden one has no cost.
 #[derive(Clone, PartialEq, Eq)]
 pub struct Costs {
     pub rows: usize,
     pub columns: usize,
-    pub loaded: Vec<i64>,
-    pub held: Vec<i64>,
+    pub entries: Vec<Option<Cost>>,
 }
 
 impl Costs {
     /// "T becomes s × H."
-    pub fn new(rows: usize, columns: usize, loaded: Vec<i64>, scale: i64) -> Self {
-        let held = loaded.iter().map(|points| scale * points).collect();
-        Self { rows, columns, loaded, held }
+    pub fn new(rows: usize, columns: usize, loaded: Vec<Option<i64>>, scale: i64) -> Self {
+        let cost = |points: i64| Cost { loaded: points, held: scale * points };
+        Self { rows, columns, entries: loaded.into_iter().map(|entry| entry.map(cost)).collect() }
     }
 
     /// The cells of one choice: of the train of the rows (side 0) or of the columns (side 1). Row 0
@@ -62,15 +72,40 @@ impl Costs {
         (start..).step_by(step).take(count)
     }
 
-    /// The least held cost of a line.
-    pub fn least(&self, side: usize, choice: usize) -> i64 {
-        let costs = self.line(side, choice).map(|cell| self.held[cell]);
-        costs.min().expect("sizes are at least 1")
+    /// The held cost of an entry, if it is permitted.
+    pub fn held(&self, cell: usize) -> Option<i64> {
+        self.entries[cell].map(|cost| cost.held)
+    }
+
+    /// The held costs of a line's permitted entries.
+    pub fn line_held(&self, side: usize, choice: usize) -> impl Iterator<Item = i64> + '_ {
+        self.line(side, choice).filter_map(|cell| self.held(cell))
+    }
+
+    /// The least held cost of a line. "Least costs are taken over permitted entries."
+    pub fn least(&self, side: usize, choice: usize) -> Option<i64> {
+        self.line_held(side, choice).min()
+    }
+
+    /// Adds an amount to a held cost. On a forbidden entry it is lost.
+    pub fn put(&mut self, cell: usize, amount: i64) {
+        if let Some(cost) = &mut self.entries[cell] {
+            cost.held += amount;
+        }
     }
 
     /// Takes an amount off every held cost of a line.
     pub fn take(&mut self, side: usize, choice: usize, amount: i64) {
-        self.line(side, choice).for_each(|cell| self.held[cell] -= amount);
+        self.line(side, choice).for_each(|cell| self.put(cell, -amount));
+    }
+
+    /// The costs of the permitted entries.
+    pub fn permitted(&self) -> impl Iterator<Item = &Cost> {
+        self.entries.iter().flatten()
+    }
+
+    pub fn permitted_mut(&mut self) -> impl Iterator<Item = &mut Cost> {
+        self.entries.iter_mut().flatten()
     }
 }
 
@@ -116,9 +151,14 @@ impl Study {
         self.trains.iter_mut().chain(self.pairs.iter_mut().map(|pair| &mut pair.costs))
     }
 
-    /// "c0 or an entry would end below 0 or above L" is 12.
+    /// Whether no entry is forbidden.
+    pub fn permits_all(&self) -> bool {
+        self.tables().flat_map(|costs| &costs.entries).all(Option::is_some)
+    }
+
+    /// "c0 or an entry would end below 0 or above L" is 12. Forbidden entries "add no condition".
     pub fn judge(&self) -> Result<(), Refusal> {
-        let entries = self.tables().all(|costs| costs.held.iter().all(|cost| PARTS.contains(cost)));
+        let entries = self.tables().flat_map(Costs::permitted).all(|cost| PARTS.contains(&cost.held));
         (entries && PARTS.contains(&self.constant)).then_some(()).ok_or(Refusal::Limit)
     }
 
@@ -129,22 +169,23 @@ impl Study {
         block[..4].copy_from_slice(&head);
         for (i, train) in self.trains.iter().enumerate() {
             block[4 + i] = train.columns as i64;
-            write_rows(&mut block[124 + 8 * i..], &train.loaded, train.columns);
-            write_rows(&mut block[316 + 8 * i..], &train.held, train.columns);
+            write_rows(&mut block[124 + 8 * i..], train, |cost| cost.loaded);
+            write_rows(&mut block[316 + 8 * i..], train, |cost| cost.held);
         }
         for (number, Pair { trains, costs }) in self.pairs.iter().enumerate() {
             block[28 + number] = trains[0] as i64;
             block[76 + number] = trains[1] as i64;
-            write_rows(&mut block[508 + 64 * number..], &costs.loaded, costs.columns);
-            write_rows(&mut block[3_580 + 64 * number..], &costs.held, costs.columns);
+            write_rows(&mut block[508 + 64 * number..], costs, |cost| cost.loaded);
+            write_rows(&mut block[3_580 + 64 * number..], costs, |cost| cost.held);
         }
     }
 }
 
 /// Rows of the block have 8 places each.
-fn write_rows(places: &mut [i64], costs: &[i64], columns: usize) {
-    for (row, costs) in places.chunks_mut(8).zip(costs.chunks(columns)) {
-        row[..columns].copy_from_slice(costs);
+fn write_rows(places: &mut [i64], costs: &Costs, number: fn(Cost) -> i64) {
+    for (row, entries) in places.chunks_mut(8).zip(costs.entries.chunks(costs.columns)) {
+        let numbers = entries.iter().map(|entry| entry.map_or(FORBIDDEN, number));
+        row.iter_mut().zip(numbers).for_each(|(place, number)| *place = number);
     }
 }
 
@@ -204,13 +245,25 @@ fn used<'a>(places: &'a [i64], count: usize, range: &RangeInclusive<i64>) -> Opt
     lawful.then_some(front)
 }
 
+/// The entries of rows of 8 places each, H and T side by side. Unused places are 0.
 fn costs(loaded: &[i64], held: &[i64], rows: usize, columns: usize) -> Option<Costs> {
-    let read = |places: &[i64], range: &RangeInclusive<i64>| {
-        let mut cells = Vec::with_capacity(rows * columns);
-        for (a, row) in places.chunks(8).enumerate() {
-            cells.extend_from_slice(used(row, if a < rows { columns } else { 0 }, range)?);
+    let mut entries = Vec::with_capacity(rows * columns);
+    for (a, (loaded, held)) in loaded.chunks(8).zip(held.chunks(8)).enumerate() {
+        let used = if a < rows { columns } else { 0 };
+        let [(loaded, unused), (held, unused_held)] = [loaded, held].map(|row| row.split_at(used));
+        if unused.iter().chain(unused_held).any(|&value| value != 0) {
+            return None;
         }
-        Some(cells)
-    };
-    Some(Costs { rows, columns, loaded: read(loaded, &COSTS)?, held: read(held, &PARTS)? })
+        for (&loaded, &held) in loaded.iter().zip(held) {
+            entries.push(entry(loaded, held)?);
+        }
+    }
+    Some(Costs { rows, columns, entries })
+}
+
+/// "H and T hold −1" where an entry is forbidden. "An entry −1 in one of them only is 16."
+fn entry(loaded: i64, held: i64) -> Option<Option<Cost>> {
+    let permitted = COSTS.contains(&loaded) && PARTS.contains(&held);
+    let forbidden = loaded == FORBIDDEN && held == FORBIDDEN;
+    (permitted || forbidden).then_some(permitted.then_some(Cost { loaded, held }))
 }

@@ -21,19 +21,23 @@ pub struct Certificate {
     pub joint: Vec<Vec<i64>>,
 }
 
-/// "H at that choice grows by the points, T by s × points."
+/// "H at that choice grows by the points, T by s × points." "Forbidden entries stay so under every line that doesn't
+/// load, additions included."
 pub fn add(study: &mut Study, add: &Add) -> Result<(), Refusal> {
-    let costs = &mut study.trains[add.train];
-    costs.loaded[add.choice] += add.points;
-    costs.held[add.choice] += study.scale * add.points;
-    if !COSTS.contains(&costs.loaded[add.choice]) {
+    let Some(cost) = &mut study.trains[add.train].entries[add.choice] else {
+        return Ok(());
+    };
+    cost.loaded += add.points;
+    cost.held += study.scale * add.points;
+    if !COSTS.contains(&cost.loaded) {
         return Err(Refusal::Loaded);
     }
     study.judge()
 }
 
 /// "Together: c0 grows by the sum of u_i. c_i(a) becomes c_i(a) − u_i plus all moves of train i,
-/// choice a. c_ij(a,b) becomes c_ij(a,b) − p_i,a − p_j,b. Only the end is judged."
+/// choice a. c_ij(a,b) becomes c_ij(a,b) − p_i,a − p_j,b. Only the end is judged." What falls on a forbidden entry
+/// vanishes there, and still acts on the other side.
 pub fn shift(study: &mut Study, shift: &Shift) -> Result<(), Refusal> {
     for (costs, &lift) in study.trains.iter_mut().zip(&shift.lifts) {
         costs.take(0, 0, lift);
@@ -43,7 +47,7 @@ pub fn shift(study: &mut Study, shift: &Shift) -> Result<(), Refusal> {
         for (side, moves) in sides.iter().enumerate() {
             for (choice, &amount) in moves.iter().enumerate() {
                 pair.costs.take(side, choice, amount);
-                study.trains[pair.trains[side]].held[choice] += amount;
+                study.trains[pair.trains[side]].put(choice, amount);
             }
         }
     }
@@ -65,25 +69,28 @@ pub fn tighten(study: &mut Study) -> Result<(), Refusal> {
     study.judge()
 }
 
-/// The least of each line of a pair's costs moves to the choice beside it.
+/// The least of each line of a pair's costs moves to the choice beside it. "Where there are none, nothing moves." "A
+/// least cost that goes to a forbidden entry is still taken off where it stood."
 fn move_leasts(pair: &mut Costs, side: usize, train: &mut Costs) {
-    for (choice, cost) in train.held.iter_mut().enumerate() {
-        let least = pair.least(side, choice);
-        pair.take(side, choice, least);
-        *cost += least;
+    for choice in 0..train.columns {
+        if let Some(least) = pair.least(side, choice) {
+            pair.take(side, choice, least);
+            train.put(choice, least);
+        }
     }
 }
 
 /// A train's least cost is taken off every choice and added to c0.
 fn lift_least(train: &mut Costs, constant: &mut i64) {
-    let least = train.least(0, 0);
-    train.take(0, 0, least);
-    *constant += least;
+    if let Some(least) = train.least(0, 0) {
+        train.take(0, 0, least);
+        *constant += least;
+    }
 }
 
 /// A directional round: "For j from n−1 down to 1, each pair (i, j) in order first takes all of c_j(b) into its
 /// entries; then each row's least entry moves to c_i(a). After its pairs, train j lifts its least cost to the
-/// constant; train 0 lifts last."
+/// constant; train 0 lifts last." It "takes c_j(b), unless forbidden, off wholly and adds it to permitted entries only".
 pub fn round(study: &mut Study) -> Result<(), Refusal> {
     for train in (0..study.trains.len()).rev() {
         for pair in &mut study.pairs {
@@ -92,9 +99,11 @@ pub fn round(study: &mut Study) -> Result<(), Refusal> {
             if second != train {
                 continue;
             }
-            for (choice, cost) in study.trains[second].held.iter_mut().enumerate() {
-                pair.costs.line(1, choice).for_each(|cell| pair.costs.held[cell] += *cost);
-                *cost = 0;
+            for (choice, entry) in study.trains[second].entries.iter_mut().enumerate() {
+                if let Some(cost) = entry {
+                    pair.costs.take(1, choice, -cost.held);
+                    cost.held = 0;
+                }
             }
             move_leasts(&mut pair.costs, 0, &mut study.trains[first]);
         }
@@ -103,8 +112,8 @@ pub fn round(study: &mut Study) -> Result<(), Refusal> {
     study.judge()
 }
 
-/// E = W × c0 + sum of w × c_i + sum of z × c_ij, where the weights' sums agree; else 14.
-pub fn ceiling(study: &Study, certificate: &Certificate) -> Result<i64, Refusal> {
+/// Whether the weights' sums agree.
+fn agree(study: &Study, certificate: &Certificate) -> bool {
     // "Each train's w sum to W."
     let mut agree = certificate.single.iter().all(|w| w.iter().sum::<i64>() == certificate.whole);
     // "Each row of z sums to w_i(a), each column to w_j(b)."
@@ -115,11 +124,24 @@ pub fn ceiling(study: &Study, certificate: &Certificate) -> Result<i64, Refusal>
             }
         }
     }
-    if !agree {
+    agree
+}
+
+/// E = W × c0 + sum of w × c_i + sum of z × c_ij, where the weights' sums agree, else 14, and none above 0 is on a
+/// forbidden entry, else 18. Forbidden entries are left out.
+pub fn ceiling(study: &Study, certificate: &Certificate) -> Result<i64, Refusal> {
+    if !agree(study, certificate) {
         return Err(Refusal::Sums);
     }
     let weights = certificate.single.iter().chain(&certificate.joint).flatten();
-    let costs = study.tables().flat_map(|costs| &costs.held);
-    let products = weights.zip(costs).map(|(weight, cost)| weight * cost);
-    Ok(certificate.whole * study.constant + products.sum::<i64>())
+    let entries = study.tables().flat_map(|costs| &costs.entries);
+    let mut ceiling = certificate.whole * study.constant;
+    for (&weight, entry) in weights.zip(entries) {
+        match entry {
+            Some(cost) => ceiling += weight * cost.held,
+            None if weight > 0 => return Err(Refusal::ForbiddenWeight),
+            None => {}
+        }
+    }
+    Ok(ceiling)
 }

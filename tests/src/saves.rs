@@ -4,7 +4,7 @@ use crate::calls::{Call, Setting};
 use crate::claims::demand;
 use crate::generator::{Reach, Session};
 use crate::lines::LONGEST_LINE;
-use crate::model::{self, BLOCK_LENGTH};
+use crate::model::{self, BLOCK_LENGTH, FORBIDDEN};
 use crate::{Service, LEAST_BUFFER, LONGEST_REPLY};
 use std::ops::Range;
 
@@ -13,8 +13,9 @@ use std::ops::Range;
 pub struct Saves {
     /// Saved lines that were loaded again.
     pub loaded: usize,
-    /// Of these, saves of blocks whose T isn't s × H or whose c0 isn't 0.
+    /// Of these, saves of blocks whose T isn't s × H or whose c0 isn't 0, and of blocks with a forbidden entry.
     pub rewritten: usize,
+    pub forbidden: usize,
     /// Loads that a save gave back.
     pub given_back: usize,
 }
@@ -24,10 +25,11 @@ const LOADED: [Range<usize>; 3] = [0..3, 4..316, 508..3_580];
 /// From a place of H to that of T, of choices and of pairs.
 const HELD: [(Range<usize>, usize); 2] = [(124..316, 316 - 124), (508..3_580, 3_580 - 508)];
 
-/// T = s × H and c0 = 0.
+/// T = s × H, both −1 where an entry is forbidden, and c0 = 0.
 fn as_loaded(block: &[i64]) -> bool {
+    let expected = |loaded: i64| if loaded == FORBIDDEN { FORBIDDEN } else { block[1] * loaded };
     let held = |(places, to_held): &(Range<usize>, usize)| {
-        places.clone().all(|place| block[place + to_held] == block[1] * block[place])
+        places.clone().all(|place| block[place + to_held] == expected(block[place]))
     };
     block[3] == 0 && HELD.iter().all(held)
 }
@@ -44,6 +46,7 @@ impl Saves {
     pub fn check_saved(&mut self, service: Service, block: &[i64], saved: &[u8]) -> Result<(), String> {
         self.loaded += 1;
         self.rewritten += usize::from(!as_loaded(block));
+        self.forbidden += usize::from(block.contains(&FORBIDDEN));
         demand(saved.len() <= LONGEST_LINE, "a saved line is too long")?;
         for before in [&[0; BLOCK_LENGTH], block] {
             let mut after = before.to_vec();

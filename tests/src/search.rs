@@ -13,29 +13,48 @@ pub struct Walk {
     pub best: Option<Best>,
 }
 
-/// "Opening a train tries its choices; trying a choice opens the next train. Trains and choices
-/// ascend." The open trains are 0 to `depth`, without recursion.
-pub fn walk(study: &Study, budget: i64) -> Walk {
-    let n = study.trains.len();
-    let mut partners: Vec<Vec<(usize, &Costs)>> = vec![Vec::new(); n];
-    for pair in &study.pairs {
-        let [i, j] = pair.trains;
-        partners[j].push((i, &pair.costs));
+/// By train, its partners of lower number and the costs beside each.
+struct Partners<'a>(Vec<Vec<(usize, &'a Costs)>>);
+
+impl<'a> Partners<'a> {
+    fn of(study: &'a Study) -> Self {
+        let mut partners = vec![Vec::new(); study.trains.len()];
+        for pair in &study.pairs {
+            let [i, j] = pair.trains;
+            partners[j].push((i, &pair.costs));
+        }
+        Self(partners)
     }
-    // By open train: the partial total before it, and the choice that it tries next.
-    let mut before = vec![study.constant; n];
-    let mut next = vec![0; n];
-    let mut plan = vec![0; n];
-    let mut depth = 0;
+
+    /// The costs in T that a choice brings in beside the choices before it, `None` where one of them is forbidden.
+    fn brought(&self, study: &Study, earlier: &[usize], choice: usize) -> Option<i64> {
+        let train = earlier.len();
+        let mut sum = study.trains[train].held(choice)?;
+        for &(partner, costs) in &self.0[train] {
+            sum += costs.held(earlier[partner] * costs.columns + choice)?;
+        }
+        Some(sum)
+    }
+}
+
+/// An open train: the partial total before it, and the choice that it tries next.
+struct Open {
+    before: i64,
+    next: usize,
+}
+
+/// "Opening a train tries its choices; trying a choice opens the next train. Trains and choices
+/// ascend." Without recursion: the open trains are 0 to the last of `open`, and all before it are decided.
+pub fn walk(study: &Study, budget: i64) -> Walk {
+    let partners = Partners::of(study);
     let mut walk = Walk { ended: false, count: 0, best: None };
-    loop {
-        let choice = next[depth];
-        if choice == study.size(depth) {
-            if depth == 0 {
-                walk.ended = true;
-                return walk;
-            }
-            depth -= 1;
+    let mut open = vec![Open { before: study.constant, next: 0 }];
+    let mut decided = Vec::new();
+    while let Some(Open { before, next }) = open.last_mut() {
+        let choice = *next;
+        if choice == study.size(decided.len()) {
+            open.pop();
+            decided.pop();
             continue;
         }
         // "Before each try, if the count equals the budget, the walk is spent. Each try counts 1."
@@ -43,23 +62,23 @@ pub fn walk(study: &Study, budget: i64) -> Walk {
             return walk;
         }
         walk.count += 1;
-        next[depth] += 1;
-        plan[depth] = choice;
-        // "The partial total is c0 plus the costs in T among trains decided."
-        let earlier = partners[depth].iter();
-        let pairs = earlier.map(|&(train, costs)| costs.held[plan[train] * costs.columns + choice]);
-        let total = before[depth] + study.trains[depth].held[choice] + pairs.sum::<i64>();
+        *next += 1;
+        // "The partial total is c0 plus the costs in T among trains decided." "A try that brings a forbidden entry in
+        // counts and is dropped."
+        let Some(brought) = partners.brought(study, &decided, choice) else { continue };
+        let total = *before + brought;
         // "If a best total is known and the partial total isn't below it, the try is dropped."
         if walk.best.as_ref().is_some_and(|best| total >= best.total) {
             continue;
         }
         // "A whole plan not dropped becomes the best."
-        if depth + 1 == n {
-            walk.best = Some(Best { total, plan: plan.clone() });
+        if decided.len() + 1 == study.trains.len() {
+            walk.best = Some(Best { total, plan: [&decided[..], &[choice]].concat() });
         } else {
-            depth += 1;
-            before[depth] = total;
-            next[depth] = 0;
+            decided.push(choice);
+            open.push(Open { before: total, next: 0 });
         }
     }
+    walk.ended = true;
+    walk
 }

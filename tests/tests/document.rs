@@ -1,5 +1,5 @@
 //! The reference against document 01's own examples, and those of the changes: saves, every byte as a digit,
-//! giving back, directional rounds.
+//! giving back, directional rounds, forbidden entries.
 
 use reference::calls::{digest, Call, Setting, FILLING};
 use reference::generator::every_byte;
@@ -24,6 +24,13 @@ const REPLIES: &str = "\
 
 /// The sixteen characters of a line.
 const DIGITS: &str = "0123456789ABCDEF";
+
+/// J with a forbidden choice 1 of train 0.
+const D: &str = "010200010202000002FFFFFF000000000000010001000001000000000003000002";
+/// The clique of three trains with two choices, equal ones being forbidden, all costs 0: there is no plan.
+const CLIQUE: &str = "\
+    01030001020202000000000000000000000000000000000000\
+    030001FFFFFF000000000000FFFFFF0002FFFFFF000000000000FFFFFF0102FFFFFF000000000000FFFFFF";
 
 /// The reply to a load.
 const ZERO: &str = "81000000000000000000000000";
@@ -337,6 +344,127 @@ fn rounds_of_given_tables() {
     rounded(high, "8800050775D80000050775D800", &tables);
     // The same with nothing to take at choice 1: they stay above L.
     rounded(&high.replace("325=21600000000", "325=0"), "FF0C", &[]);
+}
+
+/// Change 5: the clique has no plan, and a certificate reaches its constant all the same.
+#[test]
+fn the_clique() {
+    let nothing = [4, 8].map(|kind| format!("8{kind}{}", "0".repeat(24)));
+    let lines = [CLIQUE, "04", "08", "0600000064", "0600000003", "07"];
+    let answers = [
+        ZERO,
+        &nothing[0],
+        &nothing[1],
+        "86020000000AFFFFFFFFFFFFFFFFFF",
+        "860000000003FFFFFFFFFFFFFFFFFF",
+        CLIQUE,
+    ];
+    assert_eq!(replies(&lines), answers);
+    let certify = |whole: &str, single: &str, joint: &str| {
+        last(&[CLIQUE, &format!("05{whole}{}{}", single.repeat(3), joint.repeat(3))])
+    };
+    let (halves, first) = ("000000000001000001000000", "000001000000000000000000");
+    assert_eq!(certify("000002", "000001000001", halves), "85010000000000000000000002");
+    assert_eq!(certify("000001", "000001000000", first), "FF12");
+    // The weights' sums are judged first.
+    assert_eq!(certify("000001", "000001000001", first), "FF0E");
+}
+
+/// Change 5: a forbidden choice in searches, additions, shifts and certificates.
+#[test]
+fn forbidden_choices() {
+    let two = "000000000002000000000002";
+    let search = "8601000000040000000000020001";
+    assert_eq!(replies(&[D, "060000000A", "04", "060000000A"]), [ZERO, search, &format!("84{two}"), search]);
+    let lines = [D, "04", "020001000005", "020001FFFFFF", "020000000001", "07"];
+    let added = D.replacen("000002", "000003", 1);
+    let [tightened, same] = ["84", "82"].map(|kind| format!("{kind}{two}"));
+    assert_eq!(replies(&lines), [ZERO, &tightened, &same, "FF07", &same, &added]);
+    // 2 from the row of the forbidden choice, which is lost.
+    assert_eq!(last(&[D, &shift([0, 0, 0, 2, 0, 0])]), format!("83{}", "0".repeat(24)));
+    assert_eq!(last(&[D, &shift([0, 0, 0, 3, 0, 0])]), "FF0C");
+    // The forbidden choice gives the pair's row any amount up to L.
+    assert_eq!(last(&[D, &shift([0, 0, 0, -71_999_999_997, 0, 0])]), format!("83{}", "0".repeat(24)));
+    assert_eq!(last(&[D, &shift([0, 0, 0, -71_999_999_998, 0, 0])]), "FF0C");
+    let weight = "05000001000000000001000000000001000000000000000000000001";
+    assert_eq!(last(&[D, "04", weight]), "FF12");
+    assert_eq!(last(&[D, "04", CERTIFICATE]), "85010000000000000002000001");
+    // An addition to the forbidden choice is judged as ever.
+    assert_eq!(last(&[D, "0200010F4240"]), format!("82{}", "0".repeat(24)));
+    assert_eq!(last(&[D, "0200010F4241"]), "FF07");
+    assert_eq!(last(&[D, "02000100000500"]), "FF05");
+    assert_eq!(last(&[D, "020002000005"]), "FF09");
+}
+
+/// A study's line, a line that rewrites it, and the places of c0 and T afterwards that aren't the load's.
+fn rewritten(load: &str, line: &str, places: &[(usize, i64)]) {
+    let mut block = vec![0; BLOCK_LENGTH];
+    reference::answer(load.as_bytes(), &mut block, &mut [0; LEAST_BUFFER]);
+    let mut expected = block.clone();
+    places.iter().for_each(|&(place, value)| expected[place] = value);
+    reference::answer(line.as_bytes(), &mut block, &mut [0; LEAST_BUFFER]);
+    assert!(block == expected, "{load} {line}");
+}
+
+/// Change 5: what goes to a forbidden entry is lost; a forbidden c_j(b) is not taken.
+#[test]
+fn amounts_are_lost_on_forbidden_entries() {
+    // The least of row 1, 2, goes to the forbidden choice.
+    rewritten(D, "04", &[(3, 2), (316, 0), (324, 1), (3_580, 0), (3_588, 0), (3_589, 0)]);
+    rewritten(D, "08", &[(3, 2), (316, 0), (3_588, 1), (3_589, 0)]);
+    // Of the 4 points of c_1(0) one half is lost; c_1(1) is forbidden.
+    let half = "010200010202000000000001000004FFFFFF010001FFFFFF000000000002000005";
+    assert_eq!(
+        replies(&[half, "08", "060000000A"]),
+        [ZERO, &format!("88{}", "0".repeat(24)), "8601000000060000000000070100"]
+    );
+    rewritten(half, "08", &[(317, 6), (324, 0), (3_588, 1), (3_589, 0)]);
+    // Of a column without a permitted entry nothing is left of c_1(0).
+    rewritten("010200010101000003000005010001FFFFFF", "08", &[(3, 3), (316, 0), (324, 0)]);
+    // Leasts are of permitted entries.
+    rewritten("0101000202000005FFFFFF00", "04", &[(3, 10), (316, 0)]);
+    rewritten("0101000202FFFFFFFFFFFF00", "04", &[]);
+}
+
+/// Change 5: without a permitted choice a train is lifted, and without a permitted entry a row gives, up to L.
+#[test]
+fn lines_reach_the_limit() {
+    let highest = "0010C388D0000010C388D000";
+    let lines = ["0101000101FFFFFF00", "060000000A", "030010C388D000", "04", "03000000000001"];
+    let [shifted, tightened] = ["83", "84"].map(|kind| format!("{kind}{highest}"));
+    assert_eq!(replies(&lines), [ZERO, "860200000001FFFFFFFFFFFFFF", &shifted, &tightened, "FF0C"]);
+    let lines = [
+        "010200010101000000000000010001FFFFFF",
+        "030000000000000000000000010010C388D000000000000001",
+        "08",
+        "04",
+        "020000000001",
+        "060000000A",
+    ];
+    let answers =
+        [ZERO, "83000000000001000000000001", "FF0C", "FF0C", "FF0C", "860200000002FFFFFFFFFFFFFFFF"];
+    assert_eq!(replies(&lines), answers);
+}
+
+/// Change 5: −1 stands in H and in T, at used places only.
+#[test]
+fn forbidden_entries_of_the_block() {
+    assert_eq!(last(&["0101000101FFFFFE"]), "FF07");
+    assert_eq!(last(&["0101000101FFFFFF00"]), ZERO);
+    let judged = |edits: &str| {
+        let mut block = vec![0; BLOCK_LENGTH];
+        reference::answer(D.as_bytes(), &mut block, &mut [0; LEAST_BUFFER]);
+        let call = Call::parse(format!("{LEAST_BUFFER} {edits} 060000000A").as_bytes()).unwrap();
+        String::from_utf8(call.run(reference::answer, &mut block).reply().to_vec()).unwrap()
+    };
+    let ill_formed = [
+        "125=0", "317=0", "3=-1", "6000=-1", "124=-1", "316=-1", "508=-1", "3580=-1", "125=-2", "317=-2",
+        "125=-2,317=-2", "126=-1,318=-1", "510=-1,3582=-1", "4=-1", "2=-1",
+    ];
+    ill_formed.iter().for_each(|edits| assert_eq!(judged(edits), "FF10", "{edits}"));
+    assert_eq!(judged("125=0,317=0"), "8601000000060000000000020001");
+    assert_eq!(judged("508=-1,3580=-1"), "8601000000040000000000020001");
+    assert_eq!(judged("124=-1,316=-1"), "860200000002FFFFFFFFFFFFFFFF");
 }
 
 /// Points that the document leaves short.

@@ -1,7 +1,8 @@
--- The costs of all plans by the ledger, computed.
+-- The costs of all plans by the ledger, computed, where nothing is forbidden.
 use mathlib.Core.List.{List, [], _∷_, _++_}
 use Prim.Native.Nat.{ℕ, zero, suc, _+_}
 use Rattle.theory.specs.Lists.{nth}
+use Rattle.tables.specs.Numbers.{permits, paid}
 use Rattle.tables.specs.Plans.{choiceTotal, pairTotal, total}
 use Rattle.lines.specs.Kinds.{newKind}
 use Rattle.service.specs.Calls.{Exchange}
@@ -29,7 +30,7 @@ costsOf g (p ∷ ps) = costOf g (nth p) ∷ costsOf g ps
 
 -- the costs of all plans by the ledger that is fed these lines and replies. Whoever opens this name opens every definition on its way
 unfoldable pub planCosts : List Exchange → List ℕ
-unfolding before choicesFrom plansFrom costsOf accepted newKind fed ledgerOf choiceTotal pairTotal total
+unfolding before choicesFrom plansFrom costsOf permits paid accepted newKind fed ledgerOf choiceTotal pairTotal total
 planCosts es =
     let g = ledgerOf emptyLedger es in
     costsOf g (plansFrom (g .shape .size) 0 (g .shape .trains))

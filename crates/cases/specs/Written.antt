@@ -5,7 +5,7 @@ use mathlib.Core.List.{List, [], _∷_}
 use Prim.Native.Nat.{ℕ, zero, suc, _*_}
 use Prim.Native.String.{String}
 use lib.Dec.{eqb}
-use lib.IntN.{ℤ, pos}
+use lib.IntN.{ℤ, pos, negsuc}
 use lib.ListN.{length, replicate}
 use Rattle.frames.specs.Text.{codes}
 
@@ -23,6 +23,14 @@ text s = unspaced (codes s)
 unfoldable pub marks : ℕ → List ℕ
 marks n = replicate n 170
 
+-- how a forbidden choice, or a forbidden pair of choices, stands among costs
+unfoldable pub closed : ℕ
+closed = 16777215
+
+-- document 02, change 5: 'H and T hold −1'
+unfoldable pub place : ℕ → ℤ
+place v = cond (eqb v closed) (negsuc 0) (pos v)
+
 -- a study: its choices' costs have a row for each train, its pairs' costs a grid for each pair, with a row for each choice of the first train
 pub record Written : Type 0 where
   pub scale : ℕ
@@ -39,7 +47,7 @@ pub record Written : Type 0 where
 unfoldable pub places : ℕ → List ℕ → List ℤ → List ℤ
 places zero l rest = rest
 places (suc n) [] rest = pos 0 ∷ places n [] rest
-places (suc n) (x ∷ l) rest = pos x ∷ places n l rest
+places (suc n) (x ∷ l) rest = place x ∷ places n l rest
 
 -- so many rows of 8 places
 unfoldable pub rows : ℕ → List (List ℕ) → List ℤ → List ℤ

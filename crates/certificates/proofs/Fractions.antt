@@ -5,7 +5,7 @@ use Prim.Native.Nat.{ℕ, zero, suc, _+_, _*_, _/_, _≤_, _<_, _∣_}
 use native.Mathlib.Nat.{add-mul, zero-mul, mul-one, mul-comm, mul-assoc, mul-right-comm, mul-le-mul-right, mul-pos, eq-or-lt-of-le, le-of-suc-le-suc, le-antisymm, le-of-eq, le-of-mul-le-mul-right, div-mul-cancel, dvd-mul-left, dvd-mul-right, dvd-mul-left-of-dvd, dvd-mul-right-of-dvd, dvd-trans}
 use native.Mathlib.Omega.{arith}
 use Rattle.theory.specs.Sum.{sum}
-use Rattle.tables.specs.Plans.{Shape, Costs, IsPlan, choiceTotal, pairTotal, total}
+use Rattle.tables.specs.Plans.{Shape, Costs, IsPlan, Open, choiceTotal, pairTotal, total}
 use Rattle.tables.proofs.Plans.{Shaped, plan-first, plan-second}
 use Rattle.certificates.specs.Certify.{Weights, weighted}
 use Rattle.certificates.specs.Rival.{Fraction, asFraction, plus, times, sumOf, Same, AtMost, Rival, rivalTotal, IsRival, ConstantAtMost}
@@ -15,15 +15,15 @@ use Rattle.certificates.proofs.Rivals.{rival-bound}
 -- ---- fractions over one denominator
 
 -- the fraction f is u over d
-Over : ℕ → Fraction → ℕ → Type 0
+unfoldable pub Over : ℕ → Fraction → ℕ → Type 0
 Over d f u = u * f .den ≡ f .num * d
 
 module _ (d : ℕ) where
-  over-number : (n : ℕ) → Over d (asFraction n) (n * d)
+  pub over-number : (n : ℕ) → Over d (asFraction n) (n * d)
   unfolding Over asFraction
   over-number n = mul-one (n * d)
 
-  over-plus : (f g : Fraction) (u v : ℕ) → Over d f u → Over d g v → Over d (plus f g) (u + v)
+  pub over-plus : (f g : Fraction) (u v : ℕ) → Over d f u → Over d g v → Over d (plus f g) (u + v)
   unfolding Over plus
   over-plus f g u v p q =
       add-mul u v (f .den * g .den)
@@ -31,11 +31,11 @@ module _ (d : ℕ) where
       (ap (λ (k : ℕ). v * k) (mul-comm (f .den) (g .den)) ∙ sym (mul-assoc v (g .den) (f .den)) ∙ ap (λ (k : ℕ). k * f .den) q ∙ mul-right-comm (g .num) d (f .den))
       ∙ sym (add-mul (f .num * g .den) (g .num * f .den) d)
 
-  over-times : (n : ℕ) (f : Fraction) (u : ℕ) → Over d f u → Over d (times n f) (n * u)
+  pub over-times : (n : ℕ) (f : Fraction) (u : ℕ) → Over d f u → Over d (times n f) (n * u)
   unfolding Over times
   over-times n f u p = mul-assoc n u (f .den) ∙ ap (λ (k : ℕ). n * k) p ∙ sym (mul-assoc n (f .num) d)
 
-  over-sum : (n : ℕ) (f : ℕ → Fraction) (u : ℕ → ℕ) → ((i : ℕ) → i < n → Over d (f i) (u i)) → Over d (sumOf n f) (sum n u)
+  pub over-sum : (n : ℕ) (f : ℕ → Fraction) (u : ℕ → ℕ) → ((i : ℕ) → i < n → Over d (f i) (u i)) → Over d (sumOf n f) (sum n u)
   unfolding sumOf sum Over asFraction
   over-sum zero f u h = sym (zero-mul d)
   over-sum (suc n) f u h = over-plus (sumOf n f) (f n) (sum n u) (u n) (over-sum n f u (λ i l. h i (omega arith))) (h n (omega arith))
@@ -56,26 +56,32 @@ module _ (d : ℕ) where
         let m : 0 < f .den * g .den = mul-pos (f .above) (g .above) in
         le-antisymm (le-of-mul-le-mul-right (le-of-eq h) m) (le-of-mul-le-mul-right (le-of-eq (sym h)) m)
 
-    over-at-most : 0 < d → u ≤ v → AtMost f g
+    -- the numerators compare as two fractions do
+    pub at-most-over : AtMost f g → u ≤ v
+    unfolding AtMost
+    at-most-over l =
+        le-of-mul-le-mul-right {k = f .den * g .den} (subst₂ _≤_ (sym (crossed f g u p)) (sym crossed-back) (mul-le-mul-right d l)) (mul-pos (f .above) (g .above))
+
+    pub over-at-most : 0 < d → u ≤ v → AtMost f g
     unfolding AtMost
     over-at-most h l = le-of-mul-le-mul-right {k = d} (subst₂ _≤_ (crossed f g u p) crossed-back (mul-le-mul-right (f .den * g .den) l)) h
 
 -- the numerator of f over d
-up : ℕ → Fraction → ℕ
+unfoldable pub up : ℕ → Fraction → ℕ
 up d f = f .num * (d / f .den)
 
-up-over : (d : ℕ) (f : Fraction) → f .den ∣ d → Over d f (up d f)
+pub up-over : (d : ℕ) (f : Fraction) → f .den ∣ d → Over d f (up d f)
 unfolding up Over
 up-over d f h = mul-assoc (f .num) (d / f .den) (f .den) ∙ ap (λ (k : ℕ). f .num * k) (div-mul-cancel (f .den) h)
 
 -- ---- the common denominator
 
 -- products, which each of their factors divides
-prod : ℕ → (ℕ → ℕ) → ℕ
+unfoldable pub prod : ℕ → (ℕ → ℕ) → ℕ
 prod zero f = 1
 prod (suc n) f = prod n f * f n
 
-prod-divides : (n : ℕ) (f : ℕ → ℕ) (i : ℕ) → i < n → f i ∣ prod n f
+pub prod-divides : (n : ℕ) (f : ℕ → ℕ) (i : ℕ) → i < n → f i ∣ prod n f
 unfolding prod
 prod-divides zero f i h = absurd (omega arith)
 prod-divides (suc n) f i h =
@@ -83,7 +89,7 @@ prod-divides (suc n) f i h =
     (λ l. dvd-mul-right-of-dvd (f i) (prod-divides n f i l) (f n))
     (eq-or-lt-of-le (le-of-suc-le-suc h))
 
-prod-above : (n : ℕ) (f : ℕ → ℕ) → ((i : ℕ) → 0 < f i) → 0 < prod n f
+pub prod-above : (n : ℕ) (f : ℕ → ℕ) → ((i : ℕ) → 0 < f i) → 0 < prod n f
 unfolding prod
 prod-above zero f h = omega arith
 prod-above (suc n) f h = mul-pos (prod-above n f h) (h n)
@@ -148,7 +154,7 @@ module _ (s : Shape) (r : Rival) where
 
 -- ---- of every rival: W times its constant is at most E
 
-module _ (s : Shape) (sh : Shaped s) (w : Weights) (ag : Agrees s w) (t : Costs) (r : Rival) (is : IsRival s (total s t) r) where
+module _ (s : Shape) (sh : Shaped s) (o : Open s) (w : Weights) (ag : Agrees s w) (t : Costs) (r : Rival) (is : IsRival s (total s t) r) where
   -- the rival's totals, over the common denominator
   totals : (x : ℕ → ℕ) → IsPlan s x → common s r * total s t x + up (common s r) (r .loss) ≡ total s (numerators s r) x
   unfolding IsRival
@@ -165,4 +171,4 @@ module _ (s : Shape) (sh : Shaped s) (w : Weights) (ag : Agrees s w) (t : Costs)
       (over-times d (w .fullWeight) (r .gain) _ (gain-over s r))
       (over-plus d _ _ _ _ (over-number d (weighted s w t)) (over-times d (w .fullWeight) (r .loss) _ (loss-over s r)))
       (common-above s r)
-      (omega (arith, mul-comm d (weighted s w t), rival-bound s sh w ag d (up d (r .loss)) t (numerators s r) totals))
+      (omega (arith, mul-comm d (weighted s w t), rival-bound s sh o w ag d (up d (r .loss)) t (numerators s r) totals))

@@ -9,9 +9,10 @@ use native.Mathlib.Omega.{arith}
 use lib.Dec.{eqb}
 use Rattle.theory.specs.Sum.{sum, update}
 use Rattle.theory.proofs.Sum.{sum-cong, sum-add, sum-scale, sum-scale-right, sum-const, sum-swap, sum-one, sum-two, update-same, update-other}
-use Rattle.tables.specs.Plans.{Shape, Costs, IsPlan, choiceTotal, pairTotal, total}
-use Rattle.tables.proofs.Plans.{Shaped}
+use Rattle.tables.specs.Plans.{Shape, Costs, IsPlan, Open, choiceTotal, pairTotal, total}
+use Rattle.tables.proofs.Plans.{Shaped, open-plan}
 use Rattle.certificates.specs.Certify.{Weights, overChoices, overPairs, weighted}
+use Rattle.certificates.specs.Rival.{scaled}
 use Rattle.certificates.proofs.Agrees.{Agrees}
 
 -- every train at choice 0
@@ -135,13 +136,13 @@ module _ (s : Shape) (w : Weights) where
   pairs-cong f g h =
       sum-cong (s .pairs) _ _ (λ k p. sum-cong (s .size (s .first k)) _ _ (λ a q. sum-cong (s .size (s .second k)) _ _ (λ b r. ap (λ (v : ℕ). w .pair k a b * v) (h k a b p q r))))
 
-  choices-add : (f g : ℕ → ℕ → ℕ) → overChoices s w (λ i a. f i a + g i a) ≡ overChoices s w f + overChoices s w g
+  pub choices-add : (f g : ℕ → ℕ → ℕ) → overChoices s w (λ i a. f i a + g i a) ≡ overChoices s w f + overChoices s w g
   unfolding overChoices
   choices-add f g =
       sum-cong (s .trains) _ _ (λ i p. sum-cong (s .size i) _ _ (λ a q. mul-add (w .choice i a) (f i a) (g i a)) ∙ sum-add (s .size i) (λ a. w .choice i a * f i a) (λ a. w .choice i a * g i a))
       ∙ sum-add (s .trains) (λ i. sum (s .size i) (λ a. w .choice i a * f i a)) (λ i. sum (s .size i) (λ a. w .choice i a * g i a))
 
-  pairs-add : (f g : ℕ → ℕ → ℕ → ℕ) → overPairs s w (λ k a b. f k a b + g k a b) ≡ overPairs s w f + overPairs s w g
+  pub pairs-add : (f g : ℕ → ℕ → ℕ → ℕ) → overPairs s w (λ k a b. f k a b + g k a b) ≡ overPairs s w f + overPairs s w g
   unfolding overPairs
   pairs-add f g =
       sum-cong (s .pairs) _ _ (λ k p.
@@ -151,13 +152,13 @@ module _ (s : Shape) (w : Weights) where
       ∙ sum-add (s .size (s .first k)) (λ a. sum (s .size (s .second k)) (λ b. w .pair k a b * f k a b)) (λ a. sum (s .size (s .second k)) (λ b. w .pair k a b * g k a b)))
       ∙ sum-add (s .pairs) (λ k. sum (s .size (s .first k)) (λ a. sum (s .size (s .second k)) (λ b. w .pair k a b * f k a b))) (λ k. sum (s .size (s .first k)) (λ a. sum (s .size (s .second k)) (λ b. w .pair k a b * g k a b)))
 
-  choices-scale : (d : ℕ) (f : ℕ → ℕ → ℕ) → overChoices s w (λ i a. d * f i a) ≡ d * overChoices s w f
+  pub choices-scale : (d : ℕ) (f : ℕ → ℕ → ℕ) → overChoices s w (λ i a. d * f i a) ≡ d * overChoices s w f
   unfolding overChoices
   choices-scale d f =
       sum-cong (s .trains) _ _ (λ i p. sum-cong (s .size i) _ _ (λ a q. mul-left-comm (w .choice i a) d (f i a)) ∙ sum-scale (s .size i) d (λ a. w .choice i a * f i a))
       ∙ sum-scale (s .trains) d (λ i. sum (s .size i) (λ a. w .choice i a * f i a))
 
-  pairs-scale : (d : ℕ) (f : ℕ → ℕ → ℕ → ℕ) → overPairs s w (λ k a b. d * f k a b) ≡ d * overPairs s w f
+  pub pairs-scale : (d : ℕ) (f : ℕ → ℕ → ℕ → ℕ) → overPairs s w (λ k a b. d * f k a b) ≡ d * overPairs s w f
   unfolding overPairs
   pairs-scale d f =
       sum-cong (s .pairs) _ _ (λ k p.
@@ -167,7 +168,7 @@ module _ (s : Shape) (w : Weights) where
       ∙ sum-scale (s .pairs) d (λ k. sum (s .size (s .first k)) (λ a. sum (s .size (s .second k)) (λ b. w .pair k a b * f k a b)))
 
   -- a sum over the pairs under the sum over the choices
-  choices-sum : (m : ℕ) (f : ℕ → ℕ → ℕ → ℕ) → overChoices s w (λ i a. sum m (λ k. f k i a)) ≡ sum m (λ k. overChoices s w (λ i a. f k i a))
+  pub choices-sum : (m : ℕ) (f : ℕ → ℕ → ℕ → ℕ) → overChoices s w (λ i a. sum m (λ k. f k i a)) ≡ sum m (λ k. overChoices s w (λ i a. f k i a))
   unfolding overChoices
   choices-sum m f =
       sum-cong (s .trains) _ _ (λ i p.
@@ -180,18 +181,18 @@ module _ (s : Shape) (w : Weights) where
     train-const : (i c : ℕ) → i < s .trains → sum (s .size i) (λ a. w .choice i a * c) ≡ w .fullWeight * c
     train-const i c h = sum-scale-right (s .size i) c (λ a. w .choice i a) ∙ ap (λ (v : ℕ). v * c) (ag .trains i h)
 
-    choices-const : (f : ℕ → ℕ) → overChoices s w (λ i a. f i) ≡ w .fullWeight * sum (s .trains) f
+    pub choices-const : (f : ℕ → ℕ) → overChoices s w (λ i a. f i) ≡ w .fullWeight * sum (s .trains) f
     unfolding overChoices
     choices-const f = sum-cong (s .trains) _ _ (λ i h. train-const i (f i) h) ∙ sum-scale (s .trains) (w .fullWeight) f
 
     -- the sum over a pair's choices of what depends on one of them
-    by-rows : (f : ℕ → ℕ → ℕ) → overPairs s w (λ k a b. f k a) ≡ sum (s .pairs) (λ k. sum (s .size (s .first k)) (λ a. w .choice (s .first k) a * f k a))
+    pub by-rows : (f : ℕ → ℕ → ℕ) → overPairs s w (λ k a b. f k a) ≡ sum (s .pairs) (λ k. sum (s .size (s .first k)) (λ a. w .choice (s .first k) a * f k a))
     unfolding overPairs
     by-rows f =
         sum-cong (s .pairs) _ _ (λ k p. sum-cong (s .size (s .first k)) _ _ (λ a q.
         sum-scale-right (s .size (s .second k)) (f k a) (λ b. w .pair k a b) ∙ ap (λ (v : ℕ). v * f k a) (ag .rows k a p q)))
 
-    by-columns : (f : ℕ → ℕ → ℕ) → overPairs s w (λ k a b. f k b) ≡ sum (s .pairs) (λ k. sum (s .size (s .second k)) (λ b. w .choice (s .second k) b * f k b))
+    pub by-columns : (f : ℕ → ℕ → ℕ) → overPairs s w (λ k a b. f k b) ≡ sum (s .pairs) (λ k. sum (s .size (s .second k)) (λ b. w .choice (s .second k) b * f k b))
     unfolding overPairs
     by-columns f =
         sum-cong (s .pairs) _ _ (λ k p.
@@ -336,42 +337,38 @@ module _ (s : Shape) (sh : Shaped s) (w : Weights) (ag : Agrees s w) (t : Costs)
         mul-add (w .fullWeight) (t .constant) (choiceTotal s t base),
       )
 
-module _ (s : Shape) (sh : Shaped s) where
+module _ (s : Shape) (sh : Shaped s) (o : Open s) where
   base-plan : IsPlan s base
-  base-plan = record { below = sh .filled }
+  base-plan = open-plan sh o base (sh .filled)
 
   update-plan : (x : ℕ → ℕ) (i a : ℕ) → IsPlan s x → a < s .size i → IsPlan s (update x i a)
-  update-plan x i a p h = record { below = λ j q. by j q (ℕ-discrete j i) }
+  update-plan x i a p h = open-plan sh o (update x i a) (λ j q. by j q (ℕ-discrete j i))
     where
       by : (j : ℕ) → j < s .trains → Dec (j ≡ i) → update x i a j < s .size j
       by j q (yes e) = omega (arith, update-same x i a j e, ap (s .size) e)
       by j q (no e) = omega (arith, update-other x i a j e, p .below j q)
 
 -- the same total for every plan: the same weighted total
-module _ (s : Shape) (sh : Shaped s) (w : Weights) (ag : Agrees s w) (t u : Costs) (same : (x : ℕ → ℕ) → IsPlan s x → total s t x ≡ total s u x) where
+module _ (s : Shape) (sh : Shaped s) (o : Open s) (w : Weights) (ag : Agrees s w) (t u : Costs) (same : (x : ℕ → ℕ) → IsPlan s x → total s t x ≡ total s u x) where
   pub same-weighted : weighted s w t ≡ weighted s w u
   same-weighted =
       omega (
         arith,
         by-totals s sh w ag t,
         by-totals s sh w ag u,
-        pairs-cong s w _ _ (λ k a b p q r. same (one (s .first k) a) (update-plan s sh base (s .first k) a (base-plan s sh) q)),
-        pairs-cong s w _ _ (λ k a b p q r. same (one (s .second k) b) (update-plan s sh base (s .second k) b (base-plan s sh) r)),
-        choices-cong s w _ _ (λ i a p q. same (one i a) (update-plan s sh base i a (base-plan s sh) q)),
-        pairs-cong s w _ _ (λ k a b p q r. same (two (s .first k) a (s .second k) b) (update-plan s sh (one (s .first k) a) (s .second k) b (update-plan s sh base (s .first k) a (base-plan s sh) q) r)),
-        pairs-cong s w _ _ (λ k a b p q r. same base (base-plan s sh)),
-        ap (λ (v : ℕ). w .fullWeight * v) (same base (base-plan s sh)),
-        ap (λ (v : ℕ). s .trains * (w .fullWeight * v)) (same base (base-plan s sh)),
+        pairs-cong s w _ _ (λ k a b p q r. same (one (s .first k) a) (update-plan s sh o base (s .first k) a (base-plan s sh o) q)),
+        pairs-cong s w _ _ (λ k a b p q r. same (one (s .second k) b) (update-plan s sh o base (s .second k) b (base-plan s sh o) r)),
+        choices-cong s w _ _ (λ i a p q. same (one i a) (update-plan s sh o base i a (base-plan s sh o) q)),
+        pairs-cong s w _ _ (λ k a b p q r. same (two (s .first k) a (s .second k) b) (update-plan s sh o (one (s .first k) a) (s .second k) b (update-plan s sh o base (s .first k) a (base-plan s sh o) q) r)),
+        pairs-cong s w _ _ (λ k a b p q r. same base (base-plan s sh o)),
+        ap (λ (v : ℕ). w .fullWeight * v) (same base (base-plan s sh o)),
+        ap (λ (v : ℕ). s .trains * (w .fullWeight * v)) (same base (base-plan s sh o)),
       )
 
--- every cost times d
-abbrev times : ℕ → Costs → Costs
-times d t = record { constant = d * t .constant; choice = λ i a. d * t .choice i a; pair = λ k a b. d * t .pair k a b }
-
 module _ (s : Shape) (d : ℕ) (t : Costs) where
-  total-times : (x : ℕ → ℕ) → total s (times d t) x ≡ d * total s t x
+  total-scaled : (x : ℕ → ℕ) → total s (scaled d t) x ≡ d * total s t x
   unfolding total choiceTotal pairTotal
-  total-times x =
+  total-scaled x =
       omega (
         arith,
         sum-scale (s .trains) d (λ i. t .choice i (x i)),
@@ -380,9 +377,9 @@ module _ (s : Shape) (d : ℕ) (t : Costs) where
         mul-add d (t .constant) (choiceTotal s t x),
       )
 
-  weighted-times : (w : Weights) → weighted s w (times d t) ≡ d * weighted s w t
+  pub weighted-scaled : (w : Weights) → weighted s w (scaled d t) ≡ d * weighted s w t
   unfolding weighted
-  weighted-times w =
+  weighted-scaled w =
       omega (
         arith,
         mul-left-comm (w .fullWeight) d (t .constant),
@@ -397,13 +394,13 @@ abbrev raised : ℕ → Costs → Costs
 raised e t = record { constant = t .constant + e; choice = t .choice; pair = t .pair }
 
 -- a rival whose costs are the naturals u over d, with a constant less e over d, and whose totals are t's: W times its constant is at most E
-pub rival-bound : (s : Shape) → Shaped s → (w : Weights) → Agrees s w → (d e : ℕ) (t u : Costs)
+pub rival-bound : (s : Shape) → Shaped s → Open s → (w : Weights) → Agrees s w → (d e : ℕ) (t u : Costs)
     → ((x : ℕ → ℕ) → IsPlan s x → d * total s t x + e ≡ total s u x) → w .fullWeight * u .constant ≤ d * weighted s w t + w .fullWeight * e
 unfolding weighted total choiceTotal pairTotal
-rival-bound s sh w ag d e t u same =
+rival-bound s sh o w ag d e t u same =
     omega (
       arith,
-      weighted-times s d t w,
+      weighted-scaled s d t w,
       mul-add (w .fullWeight) (d * t .constant) e,
-      same-weighted s sh w ag (raised e (times d t)) u (λ x p. omega (arith, total-times s d t x, same x p)),
+      same-weighted s sh o w ag (raised e (scaled d t)) u (λ x p. omega (arith, total-scaled s d t x, same x p)),
     )

@@ -1,6 +1,6 @@
 -- The runs of a certificate: they are all there, they say what the rule says, and once their sums are judged E fits. For every size.
 use mathlib.Core.Path.{_≡_, refl, sym, ap, ap₂, _∙_}
-use mathlib.Core.Bool.{Bool, true, false, cond, _&&_}
+use mathlib.Core.Bool.{Bool, true, false, cond, _&&_, _||_}
 use mathlib.Core.List.{List}
 use Prim.Native.Nat.{ℕ, _+_, _*_, _<_, _≤_}
 use native.Mathlib.Nat.{one-mul, mul-le-mul, mul-le-mul-right}
@@ -21,8 +21,8 @@ use Rattle.tables.specs.Counts.{pairEntries, choicesBefore}
 use Rattle.tables.proofs.Counting.{choices-part, entries-part, rows-range, columns-range}
 use Rattle.tables.proofs.Study.{trains-range, pairs-range, constant-range, size-range, first-below-trains, second-below-trains, held-choice-range, held-entry-range}
 use Rattle.certificates.specs.declared.certify.Judged.the-variants.{Disagree, Part}
-use Rattle.certificates.specs.Certify.{trainBalanced, rowBalanced, columnBalanced, pairBalanced, balanced, overChoices, overPairs, weighted, weightsOf, WeightsFor, ceiling}
-use Rattle.certificates.specs.Runs.{runSum, WeightRun, runWeighted, WeightsWithin, runsMatch, WeightRuns, trainsMatch, entriesFrom, trainMatches, pairMatches, pairsMatch, trainWeighted, trainsWeighted, rowWeighted, pairWeighted, pairsWeighted, TrainsWithin, RowsWithin}
+use Rattle.certificates.specs.Certify.{trainBalanced, rowBalanced, columnBalanced, pairBalanced, balanced, choiceSpared, entrySpared, spared, overChoices, overPairs, weighted, weightsOf, WeightsFor, ceiling}
+use Rattle.certificates.specs.Runs.{runSum, WeightRun, runWeighted, WeightsWithin, runsMatch, WeightRuns, trainsMatch, entriesFrom, trainMatches, pairMatches, pairsMatch, trainWeighted, trainsWeighted, rowWeighted, pairWeighted, pairsWeighted, TrainsWithin, RowsWithin, weightSpared, trainSpared, trainsSpared, rowSpared, pairSpared, pairsSpared}
 
 -- ---- one run
 
@@ -55,6 +55,13 @@ unequal e f = ne-eqb _ _ (λ q. f (e ∙ q))
 
 pub equal : {r t x : ℕ} → r ≡ t → r ≡ x → eqb t x ≡ true
 equal e f = eq-eqb _ _ (sym e ∙ f)
+
+-- a weight by its two tests
+pub spared-open : {r o : Bool} (v : ℕ) → r ≡ o → r ≡ true → true ≡ (o || eqb v 0)
+spared-open v e f = rw (sym e ∙ f)
+
+pub spared-none : {r o : Bool} (v : ℕ) → r ≡ o → r ≡ false → eqb v 0 ≡ (o || eqb v 0)
+spared-none v e f = rw (sym e ∙ f)
 
 -- ---- where the runs are
 
@@ -191,6 +198,13 @@ module _ (b : List ℤ) (fullWeight : ℕ) (l : List ℕ) where
       ap₂ (λ (x y : ℕ). fullWeight * constant b + x + y)
       (sum-cong (trains b) _ _ (λ i h. sum-cong (size b i) _ _ (λ a q. ap (λ (p : ℕ). getD l (choicesBefore (shapeOf b) i + a) 0 * figure b p) (omega arith))))
       (sum-cong (pairs b) _ _ (λ k h. sum-cong (size b (first b k)) _ _ (λ a q. sum-cong (size b (second b k)) _ _ (λ c r. ap₂ (λ (o p : ℕ). getD l o 0 * figure b p) (omega arith) (omega arith)))))
+
+  pub spared-runs : spared (shapeOf b) (weightsOf b fullWeight l) ≡ trainsSpared b l && pairsSpared b l
+  unfolding spared choiceSpared entrySpared trainsSpared trainSpared pairsSpared pairSpared rowSpared
+  spared-runs =
+      ap₂ _&&_
+      (all-cong (trains b) _ _ (λ i h. all-cong (size b i) _ _ (λ a q. ap (λ (p : ℕ). weightSpared b p (getD l (choicesBefore (shapeOf b) i + a) 0)) (omega arith))))
+      (all-cong (pairs b) _ _ (λ k h. all-cong (size b (first b k)) _ _ (λ a q. all-cong (size b (second b k)) _ _ (λ c r. ap₂ (λ (o p : ℕ). weightSpared b p (getD l o 0)) (omega arith) (omega arith)))))
 
 -- a pair's runs, by the numbers that the code reads
 pub pair-by-runs : (b : List ℤ) (l : List ℕ) (k : ℕ) {i j rows columns from x y : ℕ} → i ≡ first b k → j ≡ second b k → rows ≡ size b i → columns ≡ size b j

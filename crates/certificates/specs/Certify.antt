@@ -1,6 +1,6 @@
 -- Document 01, '05 certify': weights, their sums, E and whether the ceiling is reached.
 use mathlib.Core.Path.{_≡_}
-use mathlib.Core.Bool.{Bool, cond, _&&_}
+use mathlib.Core.Bool.{Bool, cond, _&&_, _||_}
 use mathlib.Core.List.{List}
 use Prim.Native.Nat.{ℕ, _+_, _*_, _^_, _<_}
 use lib.Dec.{eqb}
@@ -12,7 +12,7 @@ use Rattle.tables.specs.Block.{trains, pairs, constant, size, first, second}
 use Rattle.tables.specs.Plans.{Shape, Costs, shapeOf, heldCosts}
 use Rattle.tables.specs.Counts.{choiceCount, weightCount, choiceIndex, entryIndex}
 use Rattle.certificates.specs.declared.certify.Certificate.{Certificate}
-use Rattle.certificates.specs.declared.certify.Certificate.the-variants.{Unbalanced, Balanced}
+use Rattle.certificates.specs.declared.certify.Certificate.the-variants.{Unbalanced, Forbidden, Balanced}
 
 -- '(3 each)': what is above each weight of a line
 abbrev pub weightsBelow : ℕ
@@ -43,6 +43,19 @@ pairBalanced s w k = all (s .size (s .first k)) (rowBalanced s w k) && all (s .s
 unfoldable pub balanced : Shape → Weights → Bool
 balanced s w = all (s .trains) (trainBalanced s w) && all (s .pairs) (pairBalanced s w)
 
+-- 'a weight above 0 on a forbidden entry' is none: an entry is open, or its weight is 0
+unfoldable pub choiceSpared : Shape → Weights → ℕ → ℕ → Bool
+choiceSpared s w i a = s .choiceOpen i a || eqb (w .choice i a) 0
+
+unfoldable pub entrySpared : Shape → Weights → ℕ → ℕ → ℕ → Bool
+entrySpared s w k a c = s .entryOpen k a c || eqb (w .pair k a c) 0
+
+-- all are spared; else 18
+unfoldable pub spared : Shape → Weights → Bool
+spared s w =
+    all (s .trains) (λ i. all (s .size i) (choiceSpared s w i))
+    && all (s .pairs) (λ k. all (s .size (s .first k)) (λ a. all (s .size (s .second k)) (entrySpared s w k a)))
+
 -- 'sum of w × c_i' and 'sum of z × c_ij'
 unfoldable pub overChoices : Shape → Weights → (ℕ → ℕ → ℕ) → ℕ
 overChoices s w f = sum (s .trains) (λ i. sum (s .size i) (λ a. w .choice i a * f i a))
@@ -72,6 +85,8 @@ pub record WeightsFor (b : List ℤ) (l : List ℕ) : Type 0 where
 abbrev pub ceiling : List ℤ → Weights → ℕ
 ceiling b w = weighted (shapeOf b) w (heldCosts b)
 
--- 'Reached means E = W × c0'
+-- 'Reached means E = W × c0'; the sums are judged first, then what is forbidden
 abbrev pub certificate : List ℤ → Weights → Certificate
-certificate b w = cond (balanced (shapeOf b) w) (Balanced (record { reached = eqb (ceiling b w) (w .fullWeight * constant b); weighted = ceiling b w })) Unbalanced
+certificate b w =
+    cond (balanced (shapeOf b) w)
+    (cond (spared (shapeOf b) w) (Balanced (record { reached = eqb (ceiling b w) (w .fullWeight * constant b); weighted = ceiling b w })) Forbidden) Unbalanced

@@ -1,9 +1,9 @@
--- Document 01, 'Lists and the ledger': rivals, which are all that a rewriting of the tables could ever be.
+-- Document 01, 'Lists and the ledger': rivals, which are all that a rewriting of the tables could ever be. Rivals by lifts and moves stand in the crate `weights`.
 use mathlib.Core.Path.{_≡_}
 use Prim.Native.Nat.{ℕ, zero, suc, _+_, _*_, _<_, _≤_}
 use native.Mathlib.Nat.{mul-pos}
 use native.Mathlib.Omega.{arith}
-use Rattle.tables.specs.Plans.{Shape, IsPlan}
+use Rattle.tables.specs.Plans.{Shape, Costs, IsPlan}
 
 -- ---- fractions
 
@@ -54,3 +54,7 @@ IsRival s f r = (x : ℕ → ℕ) → IsPlan s x → Same (rivalTotal s r x) (pl
 -- 'W × the constant of every rival is at most E'
 unfoldable pub ConstantAtMost : ℕ → ℕ → Rival → Type 0
 ConstantAtMost w e r = AtMost (times w (r .gain)) (plus (asFraction e) (times w (r .loss)))
+
+-- every cost times d: 's × the ledger's costs'
+abbrev pub scaled : ℕ → Costs → Costs
+scaled d t = record { constant = d * t .constant; choice = λ i a. d * t .choice i a; pair = λ k a c. d * t .pair k a c }

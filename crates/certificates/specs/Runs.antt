@@ -1,6 +1,6 @@
 -- The rule of specs/Certify.antt by runs of weights, as the code goes through them. No part of the rule: proofs/Runs.antt shows that they say the same.
 use mathlib.Core.Path.{_≡_}
-use mathlib.Core.Bool.{Bool, cond, _&&_}
+use mathlib.Core.Bool.{Bool, cond, _&&_, _||_}
 use mathlib.Core.List.{List}
 use Prim.Native.Nat.{ℕ, _+_, _*_, _<_, _≤_}
 use lib.Dec.{eqb}
@@ -9,7 +9,8 @@ use lib.ListN.{length, getD}
 use Rattle.theory.specs.Sum.{sum}
 use Rattle.theory.specs.Range.{all}
 use Rattle.tables.specs.LineLimits.{maxFullWeight}
-use Rattle.tables.specs.Block.{maxChoices, maxParts, heldChoicePlace, heldEntryPlace, figure, trains, pairs, size, first, second}
+use Rattle.tables.specs.Block.{maxChoices, maxParts, loadedChoicePlace, loadedEntryPlace, heldChoicePlace, heldEntryPlace, at, figure, trains, pairs, size, first, second}
+use Rattle.tables.specs.WellFormed.{isOpen}
 use Rattle.tables.specs.Plans.{shapeOf}
 use Rattle.tables.specs.Counts.{choicesBefore, choiceCount, entriesBefore}
 use Rattle.certificates.specs.declared.certify.Judged.{Judged}
@@ -106,3 +107,29 @@ pub record TrainsWithin (b : List ℤ) (l : List ℕ) : Type 0 where
 
 pub record RowsWithin (b : List ℤ) (l : List ℕ) (k : ℕ) : Type 0 where
   pub sums : (a : ℕ) → a < size b (first b k) → runSum l (entriesFrom b k + size b (second b k) * a) 1 (size b (second b k)) ≤ maxFullWeight
+
+-- ---- what is forbidden, by runs
+
+-- a weight of 0, or one on an open place of H
+abbrev pub weightSpared : List ℤ → ℕ → ℕ → Bool
+weightSpared b p v = isOpen (at b p) || eqb v 0
+
+-- `count` weights from `from` on, and their places of H, from `place` on
+abbrev pub runSpared : List ℕ → ℕ → List ℤ → ℕ → ℕ → Bool
+runSpared l from b place count = all count (λ k. weightSpared b (place + k) (getD l (from + k) 0))
+
+-- the choices of train i, row a of pair k, and all of them
+unfoldable pub trainSpared : List ℤ → List ℕ → ℕ → Bool
+trainSpared b l i = runSpared l (choicesBefore (shapeOf b) i) b (loadedChoicePlace i 0) (size b i)
+
+unfoldable pub trainsSpared : List ℤ → List ℕ → Bool
+trainsSpared b l = all (trains b) (trainSpared b l)
+
+unfoldable pub rowSpared : List ℤ → List ℕ → ℕ → ℕ → Bool
+rowSpared b l k a = runSpared l (entriesFrom b k + size b (second b k) * a) b (loadedEntryPlace k a 0) (size b (second b k))
+
+unfoldable pub pairSpared : List ℤ → List ℕ → ℕ → Bool
+pairSpared b l k = all (size b (first b k)) (rowSpared b l k)
+
+unfoldable pub pairsSpared : List ℤ → List ℕ → Bool
+pairsSpared b l = all (pairs b) (pairSpared b l)

@@ -1,15 +1,18 @@
-// Document 01, '05 certify'. Each train, then each pair, is judged before it is weighed: its weights are then at most W, so that E fits.
+// Document 01, '05 certify', and document 02, change 5. Each train, then each pair, is judged before it is weighed: its weights are then at most W, so that E fits. Where all sums agree, no weight may stand on a
+// forbidden entry.
 ghost use mathlib.Core.Path.{_≡_};
-ghost use Prim.Native.Nat.{_<_, _≤_};
+ghost use mathlib.Core.Bool.{_&&_};
+ghost use Prim.Native.Nat.{_+_, _<_, _≤_};
+ghost use lib.ListN.{length};
 ghost use Rattle.tables.specs.LineLimits.{maxFullWeight};
 ghost use Rattle.tables.specs.WellFormed.{Study};
 ghost use Rattle.certificates.specs.Certify.{WeightsFor, weightsOf, certificate};
-ghost use Rattle.certificates.specs.Runs.{runSum, WeightRun, runWeighted, WeightsWithin, runsMatch, WeightRuns, trainsJudged, PairFrom, pairMatches, pairWeighted, pairsJudged, TrainsWithin, RowsWithin};
+ghost use Rattle.certificates.specs.Runs.{runSum, WeightRun, runWeighted, WeightsWithin, runsMatch, WeightRuns, trainsJudged, PairFrom, pairMatches, pairWeighted, pairsJudged, TrainsWithin, RowsWithin, weightSpared, runSpared, trainsSpared, pairSpared, pairsSpared};
 use tables::block;
 use tables::block::Block;
 use tables::places;
 
-// What a certificate with the right sums shows.
+// What an accepted certificate shows.
 pub struct Ceiling {
     // E = W × c0.
     pub reached: bool,
@@ -20,6 +23,8 @@ pub struct Ceiling {
 pub enum Certificate {
     // The weights' sums disagree.
     Unbalanced,
+    // A weight above 0 stands on a forbidden entry.
+    Forbidden,
     Balanced(Ceiling),
 }
 
@@ -31,7 +36,7 @@ enum Judged {
     Part(u64),
 }
 
-// Judges the weights' sums, then gives E and whether the ceiling is reached.
+// Judges the weights' sums, then what is forbidden, and gives E and whether the ceiling is reached.
 pub fn certify(block: &[i64], full: u64, weights: &[u64]) -> Certificate
     requires { ⌜ Study (now block) ⌝ }
     requires { ⌜ full ≤ maxFullWeight ⌝ }
@@ -43,6 +48,9 @@ pub fn certify(block: &[i64], full: u64, weights: &[u64]) -> Certificate
         Judged::Part(choices) => match pairs_judged(block, weights) {
             Judged::Disagree => Certificate::Unbalanced,
             Judged::Part(entries) => {
+                if !spared(block, weights) {
+                    return Certificate::Forbidden;
+                }
                 let floor = full * block::constant(block).number();
                 let weighted = floor + choices + entries;
                 Certificate::Balanced(Ceiling {
@@ -196,4 +204,104 @@ fn pairs_judged(b: &[i64], weights: &[u64]) -> Judged
         k += 1;
     }
     Judged::Part(sum)
+}
+
+// ---- what is forbidden
+
+// Whether no weight above 0 stands on a forbidden entry.
+fn spared(b: &[i64], weights: &[u64]) -> bool
+    requires { ⌜ Study (now b) ⌝ }
+    requires { ⌜ WeightsFor (now b) (now weights) ⌝ }
+    ensures { λ r. ⌜ r ≡ trainsSpared (now (b .entry)) (now (weights .entry)) && pairsSpared (now (b .entry)) (now (weights .entry)) ⌝ }
+{
+    if !trains_spared(b, weights) {
+        return false;
+    }
+    pairs_spared(b, weights)
+}
+
+// Whether place p of H is open, or the weight that stands on it is 0.
+fn weight_spared(b: &[i64], p: usize, weight: u64) -> bool
+    requires { ⌜ p < length (now b) ⌝ }
+    ensures { λ r. ⌜ r ≡ weightSpared (now (b .entry)) p weight ⌝ }
+{
+    if places::is_open(b, p) {
+        return true;
+    }
+    weight == 0
+}
+
+// So of `count` weights from `from` on, with their places of H from `place` on.
+fn run_spared(weights: &[u64], from: usize, b: &[i64], place: usize, count: usize) -> bool
+    requires { ⌜ (from + count ≤ length (now weights)) × (place + count ≤ length (now b)) ⌝ }
+    ensures { λ r. ⌜ r ≡ runSpared (now (weights .entry)) from (now (b .entry)) place count ⌝ }
+{
+    let mut k = 0;
+    while k < count {
+        if !weight_spared(b, place + k, weights[from + k]) {
+            return false;
+        }
+        k += 1;
+    }
+    true
+}
+
+// So of every train's choices.
+fn trains_spared(b: &[i64], weights: &[u64]) -> bool
+    requires { ⌜ Study (now b) ⌝ }
+    requires { ⌜ WeightsFor (now b) (now weights) ⌝ }
+    ensures { λ r. ⌜ r ≡ trainsSpared (now (b .entry)) (now (weights .entry)) ⌝ }
+{
+    let n = block::trains(b);
+    let mut start = 0;
+    let mut i = 0;
+    while i < n {
+        let d = block::size(b, i);
+        let place = block::choice_place(Block::LOADED_CHOICES_FROM, i, 0);
+        if !run_spared(weights, start, b, place, d) {
+            return false;
+        }
+        start += d;
+        i += 1;
+    }
+    true
+}
+
+// So of the entries of pair k, whose weights begin at `from`.
+fn pair_spared(b: &[i64], weights: &[u64], k: usize, from: usize) -> bool
+    requires { ⌜ Study (now b) ⌝ }
+    requires { ⌜ WeightsFor (now b) (now weights) ⌝ }
+    requires { ⌜ PairFrom (now b) k from ⌝ }
+    ensures { λ r. ⌜ r ≡ pairSpared (now (b .entry)) (now (weights .entry)) k ⌝ }
+{
+    let rows = counts::rows_of(b, k);
+    let columns = counts::columns_of(b, k);
+    let mut a = 0;
+    while a < rows {
+        let place = block::entry_place(Block::LOADED_ENTRIES_FROM, k, a, 0);
+        if !run_spared(weights, from + columns * a, b, place, columns) {
+            return false;
+        }
+        a += 1;
+    }
+    true
+}
+
+// So of every pair's entries.
+fn pairs_spared(b: &[i64], weights: &[u64]) -> bool
+    requires { ⌜ Study (now b) ⌝ }
+    requires { ⌜ WeightsFor (now b) (now weights) ⌝ }
+    ensures { λ r. ⌜ r ≡ pairsSpared (now (b .entry)) (now (weights .entry)) ⌝ }
+{
+    let m = block::pairs(b);
+    let mut from = counts::choice_count(b);
+    let mut k = 0;
+    while k < m {
+        if !pair_spared(b, weights, k, from) {
+            return false;
+        }
+        from += counts::pair_entries(b, k);
+        k += 1;
+    }
+    true
 }

@@ -8,7 +8,10 @@ use lib.Dec.{ltb}
 use lib.IntN.{ℤ}
 use lib.ListN.{length}
 use borrow.Author.Tests.{lt-ltb, ne-eqb}
+use Rattle.theory.proofs.Range.{not-both}
 use Rattle.refusals.specs.declared.Refusal.{Refusal}
+use Rattle.refusals.specs.declared.Verdict.{Verdict}
+use Rattle.refusals.specs.declared.Verdict.the-variants.{Fine, Declined}
 use Rattle.tables.specs.Numbers.{Numbers}
 use Rattle.certificates.specs.declared.certify.Ceiling.{Ceiling}
 use Rattle.frames.specs.Digits.{digit, byteAt}
@@ -22,6 +25,7 @@ use Rattle.search.specs.declared.answer.Found.{Found}
 use Rattle.replies.specs.Replies.{refusalByte, refusalReply, boundReply, certifyReply, searchReply}
 use Rattle.replies.specs.Shown.{kindShown}
 use Rattle.replies.proofs.ReadBack.{refusal-kind, bound-kind, certify-kind, search-kind}
+use Rattle.requests.specs.Answer.{operated}
 use Rattle.claims.specs.Ledger.{accepted}
 use Rattle.claims.specs.Claims.{shownKind}
 
@@ -56,6 +60,11 @@ kind-accepted k reply e = accepted-as reply (omega (arith, e, reply-low k))
 
 pub bound-accepted : (kind : Kind) (b : List ℤ) → accepted (boundReply kind b) ≡ true
 bound-accepted kind b = accepted-as (boundReply kind b) (omega (arith, bound-kind kind b, number-low kind))
+
+-- an operation whose reply is accepted is done
+pub operated-done : (kind : Kind) (v : Verdict) (old new : List ℤ) → accepted (operated kind v old new .reply) ≡ true → v ≡ Fine
+operated-done kind Fine old new y = refl
+operated-done kind (Declined r) old new y = absurd (not-both y (refusal-refused r))
 
 pub certify-accepted : (fullWeight : ℕ) (c : Ceiling) → accepted (certifyReply fullWeight c) ≡ true
 certify-accepted fullWeight c = kind-accepted Certify (certifyReply fullWeight c) (certify-kind fullWeight c)

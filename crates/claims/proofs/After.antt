@@ -78,7 +78,7 @@ module _ (g : Ledger) (l : List ℕ) where
   line-new : (room : ℕ) → longestFixed ≤ room → Called g freshBlock l (lineAnswer l freshBlock room)
   line-new room h =
       line-cases l freshBlock room h right-fresh (Called g freshBlock l)
-      (λ r e. called-quiet _ (refusal-refused r) (declined-call g freshBlock l r (line-allowed l freshBlock r e)))
+      (λ r e. called-quiet _ (refusal-refused r) (declined-call g freshBlock l r (line-allowed g l freshBlock r e)))
       (λ q a f. new-request q (line-makes l freshBlock q (a .asked) .1) (line-known l freshBlock q (a .asked)))
       (λ q a f. called-quiet [] empty-refused (empty-call g freshBlock l))
 

@@ -8,7 +8,7 @@ use lib.IntN.{ℤ}
 use lib.ListN.{length}
 use Rattle.theory.proofs.Range.{not-both}
 use Rattle.refusals.specs.declared.Refusal.{Refusal}
-use Rattle.refusals.specs.declared.Refusal.the-variants.{Sums, Malformed}
+use Rattle.refusals.specs.declared.Refusal.the-variants.{Sums, Malformed, ForbiddenWeight}
 use Rattle.refusals.specs.declared.Verdict.{Verdict}
 use Rattle.refusals.specs.declared.Verdict.the-variants.{Fine, Declined}
 use Rattle.tables.specs.Block.{trains}
@@ -16,11 +16,12 @@ use Rattle.tables.specs.WellFormed.{wellFormed}
 use Rattle.operations.specs.Add.{added, addOutcome}
 use Rattle.operations.specs.Load.{loadedBlock}
 use Rattle.operations.specs.Saved.{savedNumbers}
+use Rattle.rewriting.specs.Judged.{kept}
 use Rattle.shift.specs.Shift.{shifted, shiftOutcome}
 use Rattle.tighten.specs.Tighten.{tightened, tightenOutcome}
 use Rattle.directional.specs.Directional.{directed, directOutcome}
 use Rattle.certificates.specs.declared.certify.Certificate.{Certificate}
-use Rattle.certificates.specs.declared.certify.Certificate.the-variants.{Unbalanced, Balanced}
+use Rattle.certificates.specs.declared.certify.Certificate.the-variants.{Unbalanced, Forbidden, Balanced}
 use Rattle.certificates.specs.Certify.{weightsOf, certificate}
 use Rattle.frames.specs.Runs.{runOf, signedRunOf}
 use Rattle.lines.specs.declared.kind.Kind.{Kind}
@@ -63,6 +64,7 @@ either-operated kind (Declined r) old new = either-declined old r
 
 either-certified : (fullWeight : ℕ) (c : Certificate) (b : List ℤ) → Either b (certified fullWeight c b)
 either-certified fullWeight Unbalanced b = either-declined b Sums
+either-certified fullWeight Forbidden b = either-declined b ForbiddenWeight
 either-certified fullWeight (Balanced c) b = inl (certify-accepted fullWeight c)
 
 module _ (l : List ℕ) (b : List ℤ) where
@@ -73,12 +75,12 @@ module _ (l : List ℕ) (b : List ℤ) where
   either-requested (Shift q) =
       let lifts = signedRunOf l (q .lifts .at) moveWidth (q .lifts .count) in
       let moves = signedRunOf l (q .moves .at) moveWidth (q .moves .count) in
-      either-operated kind.Shift (shiftOutcome lifts moves b) b (shifted lifts moves b)
-  either-requested Tighten = either-operated kind.Tighten (tightenOutcome b) b (tightened b)
+      either-operated kind.Shift (shiftOutcome lifts moves b) b (kept b (shifted lifts moves b))
+  either-requested Tighten = either-operated kind.Tighten (tightenOutcome b) b (kept b (tightened b))
   either-requested (Certify q) = either-certified (q .full) (certificate b (weightsOf b (q .full) (runOf l (q .weights .at) weightWidth (q .weights .count)))) b
   either-requested (Search q) = inl (search-accepted (trains b) (searchAnswer b (q .budget)))
   either-requested Save = inl (save-accepted (savedNumbers b))
-  either-requested Round = either-operated kind.Round (directOutcome b) b (directed b)
+  either-requested Round = either-operated kind.Round (directOutcome b) b (kept b (directed b))
 
   either-line : (room : ℕ) → longestFixed ≤ room → wellFormed b ≡ true → Either b (lineAnswer l b room)
   either-line room h right = line-cases l b room h right (λ a. Either b a) (λ r e. either-declined b r) (λ q a f. either-requested q) (λ q a f. either-empty b)

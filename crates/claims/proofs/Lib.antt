@@ -16,4 +16,5 @@ pub mod Seen
 pub mod Inputs
 pub mod Saves
 pub mod Rounds
+pub mod Forbidden
 pub mod Uses

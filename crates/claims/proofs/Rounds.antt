@@ -1,4 +1,4 @@
--- What a line of kind 08 leaves: where it is accepted, the end of the round of a study, of which `directional` has the laws; where it is declined, the block as it was.
+-- What a line of kind 08 leaves: where it is accepted, the block that the round of a study leaves, of which `directional` has the laws; where it is declined, the block as it was.
 use mathlib.Core.Path.{_≡_, refl, _∙_}
 use mathlib.Core.Bool.{Bool, true, false}
 use mathlib.Core.List.{List}
@@ -6,13 +6,12 @@ use Prim.Native.Nat.{ℕ, _≤_}
 use native.Mathlib.Omega.{arith}
 use lib.IntN.{ℤ}
 use lib.ListN.{length}
-use Rattle.theory.proofs.Range.{not-both}
-use Rattle.refusals.specs.declared.Refusal.the-variants.{PartsOutside}
-use Rattle.refusals.specs.Verdicts.{unless}
+use Rattle.refusals.specs.declared.Verdict.the-variants.{Fine}
 use Rattle.tables.specs.Block.{constant}
-use Rattle.tables.specs.WellFormed.{holdsStudy, Study}
-use Rattle.directional.specs.Directional.{directed, directOutcome}
-use Rattle.directional.proofs.Ends.{direct-raises-constant, direct-least}
+use Rattle.tables.specs.WellFormed.{Study}
+use Rattle.rewriting.specs.Judged.{kept}
+use Rattle.directional.specs.Directional.{directed, directOutcome, directBlock}
+use Rattle.directional.proofs.Ends.{direct-raises-constant, direct-block-least}
 use Rattle.lines.specs.declared.kind.Kind.the-variants as kind
 use Rattle.lines.specs.declared.kind.NewKind.the-variants.{Known}
 use Rattle.lines.specs.declared.request.Request.the-variants.{Round}
@@ -21,12 +20,13 @@ use Rattle.lines.specs.Layout.{kindOf}
 use Rattle.requests.specs.Answer.{operated, requested}
 use Rattle.requests.specs.Wrote.{Asks}
 use Rattle.requests.proofs.Ready.{study-ready}
+use Rattle.requests.proofs.Outcomes.{operated-leaves}
 use Rattle.requests.proofs.LineCases.{fixed-line}
 use Rattle.service.specs.Answer.{answer}
 use Rattle.service.proofs.Calls.{answered-line}
 use Rattle.claims.specs.Ledger.{accepted}
 use Rattle.claims.specs.Rounds.{RoundRaises, RoundSettles}
-use Rattle.claims.proofs.Accepted.{refusal-refused}
+use Rattle.claims.proofs.Accepted.{operated-done}
 use Rattle.claims.proofs.Declined.{declined-leaves}
 use Rattle.claims.proofs.Shifts.{accepted-asks, asking-kind}
 
@@ -37,21 +37,18 @@ module _ (l : List ℕ) (b : List ℤ) (buffer : List ℕ) (known : newKind (kin
   round-study : Study b
   round-study = study-ready asked refl
 
-  answer-is : answer l b buffer ≡ operated kind.Round (directOutcome b) b (directed b)
+  answer-is : answer l b buffer ≡ operated kind.Round (directOutcome b) b (kept b (directed b))
   unfolding requested
   answer-is = answered-line l b buffer (accepted-asks l b buffer y .large) (asked .right) ∙ fixed-line l b (length buffer) (asked .fits) (asked .right) Round refl (asked .asked)
 
-  round-leaves : answer l b buffer .block ≡ directed b
-  round-leaves =
-      let end : (accepted (answer l b buffer .reply) ≡ true → answer l b buffer .block ≡ directed b) = rw answer-is (go (holdsStudy (directed b))) in
-      end y
-    where
-      go : (t : Bool) → accepted (operated kind.Round (unless t PartsOutside) b (directed b) .reply) ≡ true → operated kind.Round (unless t PartsOutside) b (directed b) .block ≡ directed b
-      go true a = refl
-      go false a = absurd (not-both a (refusal-refused PartsOutside))
+  round-leaves : answer l b buffer .block ≡ directBlock b
+  round-leaves = rw answer-is (operated-leaves kind.Round (directOutcome b) b (kept b (directed b)))
+
+  round-done : directOutcome b ≡ Fine
+  round-done = operated-done kind.Round (directOutcome b) b (kept b (directed b)) (rw answer-is at y)
 
 pub round-settles : RoundSettles
-round-settles l b buffer known y one = rw (round-leaves l b buffer known y) (direct-least (round-study l b buffer known y) one)
+round-settles l b buffer known y o one = rw (round-leaves l b buffer known y) (direct-block-least (round-study l b buffer known y) o one (round-done l b buffer known y))
 
 pub round-raises : RoundRaises
 round-raises l b buffer known = go (accepted (answer l b buffer .reply)) refl

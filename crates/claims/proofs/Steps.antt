@@ -11,28 +11,31 @@ use lib.ListN.{length}
 use Rattle.theory.proofs.Range.{not-both}
 use Rattle.units.proofs.Bound.{rounded-most}
 use Rattle.refusals.specs.declared.Refusal.{Refusal}
-use Rattle.refusals.specs.declared.Refusal.the-variants.{CostAbove, PartsOutside, Sums}
+use Rattle.refusals.specs.declared.Refusal.the-variants.{CostAbove, PartsOutside, Sums, ForbiddenWeight}
 use Rattle.refusals.specs.declared.Verdict.{Verdict}
-use Rattle.refusals.specs.declared.Verdict.the-variants.{Fine}
+use Rattle.refusals.specs.declared.Verdict.the-variants.{Fine, Declined}
 use Rattle.refusals.specs.Refusals.{refusalNumber}
-use Rattle.refusals.specs.Verdicts.{unless}
-use Rattle.tables.specs.Block.{maxTrains, maxPairs, maxCost, trains, scale, constant, size, first, second, loadedChoice}
+use Rattle.refusals.specs.Verdicts.{settled, unless}
+use Rattle.tables.specs.Block.{maxTrains, maxPairs, maxCost, maxParts, trains, scale, constant, size, first, second, loadedChoice, heldChoice}
 use Rattle.tables.specs.LineLimits.{maxFullWeight}
 use Rattle.tables.specs.WellFormed.{holdsStudy, Study}
-use Rattle.tables.specs.Plans.{IsPlan, shapeOf, loadedCosts, loadedTotal}
+use Rattle.tables.specs.Plans.{IsPlan, Open, shapeOf, loadedCosts, loadedTotal}
 use Rattle.tables.specs.Counts.{moveCount, weightCount}
 use Rattle.tables.proofs.Plans.{study-shaped, alike-inside, same-shape-total}
 use Rattle.tables.proofs.Study.{study-well-formed, trains-range, scale-range, pairs-range, constant-range, size-range, loaded-choice-range}
-use Rattle.operations.specs.Add.{added, addOutcome}
+use Rattle.operations.specs.Add.{addOpen, added, addOutcome}
 use Rattle.operations.specs.Load.{loadedBlock}
-use Rattle.operations.proofs.Added.{add-study, add-within, add-same-shape, add-choice, add-choice-kept, add-entry-kept, cost-above as above-cost}
+use Rattle.operations.proofs.Added.{added-closed, add-closed, cost-above, parts-above, both-within, add-study, add-within, add-same-shape, add-choice, add-choice-kept, add-entry-kept}
+use Rattle.rewriting.specs.Judged.{kept, judged, judgedBlock}
+use Rattle.rewriting.proofs.Rewritten.{rewrites-holds}
 use Rattle.shift.specs.Shift.{shifted}
 use Rattle.shift.proofs.Ends.{shift-rewrites}
 use Rattle.tighten.specs.Tighten.{tightened}
 use Rattle.tighten.proofs.Ends.{tighten-rewrites, tighten-within}
 use Rattle.directional.specs.Directional.{directed}
+use Rattle.directional.proofs.Ends.{direct-rewrites}
 use Rattle.certificates.specs.declared.certify.Certificate.{Certificate}
-use Rattle.certificates.specs.declared.certify.Certificate.the-variants.{Unbalanced, Balanced}
+use Rattle.certificates.specs.declared.certify.Certificate.the-variants.{Unbalanced, Forbidden, Balanced}
 use Rattle.certificates.specs.Certify.{weightsOf, certificate}
 use Rattle.certificates.proofs.Ceilings.{certify-ceiling, certify-fits}
 use Rattle.frames.specs.Runs.{runOf, signedRunOf}
@@ -67,9 +70,9 @@ use Rattle.service.proofs.AnswerCases.{fixed-fit, answer-cases}
 use Rattle.claims.specs.Ledger.{Ledger, accepted, byKind, changed, fed}
 use Rattle.claims.specs.Claims.{outside, malformed, BoundClaim, Claim, shownKind, neverOutside, AtCall}
 use Rattle.claims.proofs.ByKind.{by-kind}
-use Rattle.claims.proofs.Found.{ceiling-holds, known-plan, known-low, ended-least}
-use Rattle.claims.proofs.Keeps.{Keeps, bound-low, total-most, entry-most, scaled-most, held-total-most}
-use Rattle.claims.proofs.Kept.{load-keeps, rewritten-keeps, add-scaled, add-keeps}
+use Rattle.claims.proofs.Found.{ceiling-holds, moved-holds, known-plan, known-low, ended-least}
+use Rattle.claims.proofs.Keeps.{Keeps, open-in, bound-low, total-most, entry-most, scaled-most, held-total-most}
+use Rattle.claims.proofs.Kept.{load-keeps, judged-keeps, add-scaled, add-keeps}
 use Rattle.claims.proofs.Lines.{at-refused, at-accepted, other-refusal, empty-shows, bound-claim, round-claim, ceiling-claim, Right, search-claim}
 use Rattle.claims.proofs.Accepted.{empty-refused, refusal-refused, kind-accepted}
 use Rattle.claims.proofs.SaveClaims.{save-claim}
@@ -105,28 +108,28 @@ good-kind g b l k a known shown keeps claim =
 
 -- ---- declined calls
 
--- a refusal that no claim excludes: not 16, and to an addition, a tightening or a round not 12
-pub record Allowed (l : List ℕ) (r : Refusal) : Type 0 where
-  pub not-outside : byKind neverOutside false l ≡ true → refusalNumber r ≡ outside → ⊥
+-- a refusal that no claim excludes: not 16, and to an addition, a tightening or a round, where nothing is forbidden, not 12
+pub record Allowed (g : Ledger) (l : List ℕ) (r : Refusal) : Type 0 where
+  pub not-outside : byKind neverOutside false l ≡ true → Open (g .shape) → refusalNumber r ≡ outside → ⊥
   pub not-malformed : refusalNumber r ≡ malformed → ⊥
 
 -- what the reader declines
-pub line-allowed : (l : List ℕ) (b : List ℤ) (r : Refusal) → lineOf l b ≡ Refused r → Allowed l r
-line-allowed l b r e = record { not-outside = λ w. apart outside refl; not-malformed = apart malformed refl }
+pub line-allowed : (g : Ledger) (l : List ℕ) (b : List ℤ) (r : Refusal) → lineOf l b ≡ Refused r → Allowed g l r
+line-allowed g l b r e = record { not-outside = λ w o. apart outside refl; not-malformed = apart malformed refl }
   where
     apart : (n : ℕ) → ofReading n ≡ false → refusalNumber r ≡ n → ⊥
     apart n h q = not-both (line-refused l b r e) (ap ofReading q ∙ h)
 
 module _ (g : Ledger) (b : List ℤ) (l : List ℕ) where
-  pub declined-call : (r : Refusal) → Allowed l r → AtCall g b (exchange l (refusalReply r))
+  pub declined-call : (r : Refusal) → Allowed g l r → AtCall g b (exchange l (refusalReply r))
   declined-call r w =
-      at-refused g b l (refusalReply r) (refusal-refused r) (λ u. other-refusal r outside (w .not-outside u)) (other-refusal r malformed (w .not-malformed))
+      at-refused g b l (refusalReply r) (refusal-refused r) (λ u o. other-refusal r outside (w .not-outside u o)) (other-refusal r malformed (w .not-malformed))
 
   pub empty-call : AtCall g b (exchange l [])
-  empty-call = at-refused g b l [] empty-refused (λ u. empty-shows outside) (empty-shows malformed)
+  empty-call = at-refused g b l [] empty-refused (λ u o. empty-shows outside) (empty-shows malformed)
 
 -- they leave both block and ledger
-good-declined : {g : Ledger} {b : List ℤ} → Keeps g b → (l : List ℕ) (r : Refusal) → Allowed l r → Good g b l (declined b r)
+good-declined : {g : Ledger} {b : List ℤ} → Keeps g b → (l : List ℕ) (r : Refusal) → Allowed g l r → Good g b l (declined b r)
 good-declined {g} {b} k l r w = good-by g g b l (declined b r) (fed-refused g l (refusalReply r) (refusal-refused r)) k (declined-call g b l r w)
 
 -- ---- replies that show a bound
@@ -150,36 +153,41 @@ good-load g l b e v = good-bound g b l kind.Load (loadedBlock (numbersOf l)) e r
 -- ---- the other kinds
 
 module _ {g : Ledger} {b : List ℤ} (k : Keeps g b) (l : List ℕ) where
+  -- a rewriting whose moves end at c is done where c, with what is forbidden put back, holds a study; else it is declined with 12
+  good-judged : (kd : Kind) (c : List ℤ) → newKind (kindOf l) ≡ Known kd → replyKind kd ≡ shownKind kd → Keeps (changed kd l g) (judgedBlock b c)
+      → (BoundClaim (changed kd l g) (exchange l (boundReply kd (kept b c))) → holdsStudy (kept b c) ≡ true → Claim kd (changed kd l g) b (exchange l (boundReply kd (kept b c))))
+      → (neverOutside kd ≡ true → Open (g .shape) → holdsStudy (kept b c) ≡ true) → Good g b l (operated kd (judged b c) b (kept b c))
+  good-judged kd c e own keeps claim never = go (holdsStudy (kept b c)) refl keeps
+    where
+      go : (t : Bool) → holdsStudy (kept b c) ≡ t → Keeps (changed kd l g) (settled (unless t PartsOutside) b (kept b c))
+          → Good g b l (operated kd (unless t PartsOutside) b (kept b c))
+      go true h x = good-bound g b l kd (kept b c) e own (λ d. claim d h) x
+      go false h x =
+          good-declined k l PartsOutside
+          (record { not-outside = λ w o _. not-both (never (sym (by-kind neverOutside false l e) ∙ w) o) h; not-malformed = λ q. omega arith })
+
   -- a shift
   good-shift : newKind (kindOf l) ≡ Known kind.Shift → Good g b l (requested (shiftRequest (trains b) (moveCount (shapeOf b))) l b)
   unfolding requested
-  good-shift e = go (holdsStudy (shifted lifts moves b)) refl
-    where
-      lifts : List ℤ
-      lifts = signedRunOf l (liftField .at) moveWidth (trains b)
+  good-shift e =
+      let lifts = signedRunOf l (liftField .at) moveWidth (trains b) in
+      let moves = signedRunOf l (moveField (trains b) .at) moveWidth (moveCount (shapeOf b)) in
+      good-judged kind.Shift (shifted lifts moves b) e refl (judged-keeps k (shift-rewrites (k .study) lifts moves)) (λ d h. d) (λ w. absurd (not-both w refl))
 
-      moves : List ℤ
-      moves = signedRunOf l (moveField (trains b) .at) moveWidth (moveCount (shapeOf b))
-
-      go : (t : Bool) → holdsStudy (shifted lifts moves b) ≡ t → Good g b l (operated kind.Shift (unless t PartsOutside) b (shifted lifts moves b))
-      go true h =
-          good-bound g b l kind.Shift (shifted lifts moves b) e refl (λ d. d) (rewritten-keeps k (shift-rewrites (k .study) lifts moves) h)
-      go false h = good-declined k l PartsOutside (record { not-outside = λ w _. not-both w (by-kind neverOutside false l e); not-malformed = λ q. omega arith })
-
-  -- a tightening is always done
+  -- a tightening, which is done where nothing is forbidden
   good-tighten : newKind (kindOf l) ≡ Known kind.Tighten → Good g b l (requested Tighten l b)
   unfolding requested
   good-tighten e =
-      let h = tighten-within (k .study) (held-total-most k) in
-      rw h (good-bound g b l kind.Tighten (tightened b) e refl (λ d. d) (rewritten-keeps k (tighten-rewrites (k .study)) h))
+      good-judged kind.Tighten (tightened b) e refl (judged-keeps k (tighten-rewrites (k .study))) (λ d h. d) (λ w o. tighten-within (k .study) (open-in k o) (held-total-most k))
 
   -- and so is a round
   good-round : newKind (kindOf l) ≡ Known kind.Round → Good g b l (requested Round l b)
   unfolding requested
   good-round e =
-      let keeps = round-keeps k in
-      let s = keeps .study in
-      rw (round-done k) (good-bound g b l kind.Round (directed b) e refl (round-claim g l kind.Round (directed b) (omega (arith, constant-range s)) (bound-fits s) (round-settled k)) keeps)
+      good-judged kind.Round (directed b) e refl (round-keeps k)
+      (λ d h. let s = rewrites-holds (k .study) (direct-rewrites (k .study)) h in
+      round-claim g l kind.Round (kept b (directed b)) (omega (arith, constant-range s)) (bound-fits s) (round-settled k) d)
+      (λ w o. round-done k o)
 
   -- ---- an addition
 
@@ -187,43 +195,65 @@ module _ {g : Ledger} {b : List ℤ} (k : Keeps g b) (l : List ℕ) where
     abbrev sum-block : List ℤ
     sum-block = added (addTrain l) (addChoice l) (addPoints l) b
 
-    -- no cost of the sum is above the limit, so no plan's total is
-    sum-choice : loadedChoice b (addTrain l) (addChoice l) + addPoints l ≤ maxCost → (j c : ℕ) → j < trains b → c < size b j → loadedChoice sum-block j c ≤ maxCost
-    sum-choice low j c h q =
-        dite (ℕ-discrete j (addTrain l))
-        (λ (e : j ≡ addTrain l). dite (ℕ-discrete c (addChoice l))
-        (λ (f : c ≡ addChoice l). rw (e, f) (omega (arith, add-choice (k .study) (addTrain l) (addChoice l) (addPoints l) there in-size)))
-        (λ n. omega (arith, add-choice-kept (k .study) (addTrain l) (addChoice l) (addPoints l) there in-size j c h q (λ _. n), loaded-choice-range (k .study) j c h q .high)))
-        (λ n. omega (arith, add-choice-kept (k .study) (addTrain l) (addChoice l) (addPoints l) there in-size j c h q (λ w. absurd (n w)), loaded-choice-range (k .study) j c h q .high))
+    -- where nothing is forbidden and no cost of the sum is above the limit, no plan's total is
+    module _ (o : Open (shapeOf b)) (low : loadedChoice b (addTrain l) (addChoice l) + addPoints l ≤ maxCost) where
+      sum-choice : (j c : ℕ) → j < trains b → c < size b j → loadedChoice sum-block j c ≤ maxCost
+      sum-choice j c h q =
+          dite (ℕ-discrete j (addTrain l))
+          (λ (e : j ≡ addTrain l). dite (ℕ-discrete c (addChoice l))
+          (λ (f : c ≡ addChoice l). rw (e, f) (omega (arith, add-choice (k .study) (addTrain l) (addChoice l) (addPoints l) there in-size (o .choices (addTrain l) (addChoice l) there in-size))))
+          (λ n. omega (arith, add-choice-kept (k .study) (addTrain l) (addChoice l) (addPoints l) there in-size j c h q (λ _. n), loaded-choice-range (k .study) j c h q .high)))
+          (λ n. omega (arith, add-choice-kept (k .study) (addTrain l) (addChoice l) (addPoints l) there in-size j c h q (λ w. absurd (n w)), loaded-choice-range (k .study) j c h q .high))
 
-    sum-loaded : loadedChoice b (addTrain l) (addChoice l) + addPoints l ≤ maxCost → (x : ℕ → ℕ) → IsPlan (shapeOf b) x → loadedTotal sum-block x ≤ (maxTrains + maxPairs) * maxCost
-    unfolding loadedCosts
-    sum-loaded low x p =
-        rw (same-shape-total (add-same-shape (k .study) (addTrain l) (addChoice l) (addPoints l) there in-size) (k .study) (loadedCosts sum-block) x)
-        (total-most (shapeOf b) (loadedCosts sum-block) x (trains-range (k .study) .1) (pairs-range (k .study)) refl (λ i h. sum-choice low i (x i) h (p .below i h))
-        (λ j h. omega (arith, add-entry-kept (k .study) (addTrain l) (addChoice l) (addPoints l) there in-size j (x (first b j)) (x (second b j)), entry-most (k .study) x p j h)))
+      sum-loaded : (x : ℕ → ℕ) → IsPlan (shapeOf b) x → loadedTotal sum-block x ≤ (maxTrains + maxPairs) * maxCost
+      unfolding loadedCosts
+      sum-loaded x p =
+          rw (same-shape-total (add-same-shape (k .study) (addTrain l) (addChoice l) (addPoints l) there in-size) (k .study) (loadedCosts sum-block) x)
+          (total-most (shapeOf b) (loadedCosts sum-block) x (trains-range (k .study) .1) (pairs-range (k .study)) refl (λ i h. sum-choice i (x i) h (p .below i h))
+          (λ j h. omega (arith, add-entry-kept (k .study) (addTrain l) (addChoice l) (addPoints l) there in-size j (x (first b j)) (x (second b j)), entry-most (k .study) x p j h)))
 
-    -- 12 is never the answer: within the highest cost the addition is done
-    within-done : loadedChoice b (addTrain l) (addChoice l) + addPoints l ≤ maxCost → addOutcome (addTrain l) (addChoice l) (addPoints l) b ≡ Fine
-    within-done low =
-        add-within (k .study) (addTrain l) (addChoice l) (addPoints l) there in-size low
-        (λ x p. rw (add-scaled k (addTrain l) (addChoice l) (addPoints l) there in-size x p) (scaled-most (k .study) (loadedTotal sum-block x) (sum-loaded low x p)))
+      -- so 12 is not the answer: within the highest cost the addition is done
+      within-done : addOutcome (addTrain l) (addChoice l) (addPoints l) b ≡ Fine
+      within-done =
+          add-within (k .study) (addTrain l) (addChoice l) (addPoints l) there in-size o low
+          (λ x p. rw (add-scaled k (addTrain l) (addChoice l) (addPoints l) there in-size x p) (scaled-most (k .study) (loadedTotal sum-block x) (sum-loaded x p)))
 
-    good-added : newKind (kindOf l) ≡ Known kind.Add → Good g b l (requested (addRequest l) l b)
-    unfolding requested
-    good-added e =
-        dite (decLt maxCost (loadedChoice b (addTrain l) (addChoice l) + addPoints l))
-        (λ (h : maxCost < loadedChoice b (addTrain l) (addChoice l) + addPoints l).
-        by (above-cost (addTrain l) (addChoice l) (addPoints l) b h .0) (good-declined k l CostAbove (record { not-outside = λ w q. omega arith; not-malformed = λ q. omega arith })))
-        (λ n.
-        let d = within-done (omega arith) in
-        by (sym d)
-        (good-bound g b l kind.Add sum-block e refl (λ c. c)
-        (add-keeps l k there in-size (rw d at (add-study (k .study) (addTrain l) (addChoice l) (addPoints l) there in-size)))))
-      where
-        by : {v : Verdict} → v ≡ addOutcome (addTrain l) (addChoice l) (addPoints l) b → Good g b l (operated kind.Add v b sum-block)
-            → Good g b l (requested (addRequest l) l b)
-        by q x = subst (λ (v : Verdict). Good g b l (operated kind.Add v b sum-block)) q x
+    module _ (e : newKind (kindOf l) ≡ Known kind.Add) where
+      -- by its verdict
+      by-add : (v : Verdict) → v ≡ addOutcome (addTrain l) (addChoice l) (addPoints l) b → Good g b l (operated kind.Add v b sum-block) → Good g b l (requested (addRequest l) l b)
+      unfolding requested
+      by-add v q x = subst (λ (o : Verdict). Good g b l (operated kind.Add o b sum-block)) q x
+
+      -- done: at a forbidden choice nothing changes
+      good-sum : Study sum-block → Good g b l (operated kind.Add Fine b sum-block)
+      good-sum s = good-bound g b l kind.Add sum-block e refl (λ c. c) (add-keeps l k there in-size s)
+
+      -- declined with 12, where the sum is within the highest cost: something is forbidden
+      parts-allowed : loadedChoice b (addTrain l) (addChoice l) + addPoints l ≤ maxCost → Declined PartsOutside ≡ addOutcome (addTrain l) (addChoice l) (addPoints l) b → Allowed g l PartsOutside
+      parts-allowed low d =
+          record {
+            not-outside = λ w o q. let z : Declined PartsOutside ≡ Fine = d ∙ within-done (open-in k o) low in let y : _≡_ {A = ℕ} 0 1 = cc in omega arith;
+            not-malformed = λ q. omega arith;
+          }
+
+      good-added : Good g b l (requested (addRequest l) l b)
+      good-added = go (addOpen (addTrain l) (addChoice l) b) refl
+        where
+          go : (t : Bool) → addOpen (addTrain l) (addChoice l) b ≡ t → Good g b l (requested (addRequest l) l b)
+          go false o =
+              by-add Fine (add-closed (addTrain l) (addChoice l) (addPoints l) b o .0) (good-sum (subst Study (sym (added-closed (addTrain l) (addChoice l) (addPoints l) b o)) (k .study)))
+          go true o =
+              dite (decLt maxCost (loadedChoice b (addTrain l) (addChoice l) + addPoints l))
+              (λ (h : maxCost < loadedChoice b (addTrain l) (addChoice l) + addPoints l).
+              by-add (Declined CostAbove) (cost-above (addTrain l) (addChoice l) (addPoints l) b o h .0)
+              (good-declined k l CostAbove (record { not-outside = λ w o q. omega arith; not-malformed = λ q. omega arith })))
+              (λ m. dite (decLt maxParts (heldChoice b (addTrain l) (addChoice l) + scale b * addPoints l))
+              (λ (h : maxParts < heldChoice b (addTrain l) (addChoice l) + scale b * addPoints l).
+              let d = parts-above (addTrain l) (addChoice l) (addPoints l) b o (omega arith) h in
+              by-add (Declined PartsOutside) (d .0) (good-declined k l PartsOutside (parts-allowed (omega arith) (d .0))))
+              (λ n.
+              let d = both-within (addTrain l) (addChoice l) (addPoints l) b o (omega arith) (omega arith) in
+              by-add Fine (d .0) (good-sum (subst Study (sym (d .1)) (add-study (k .study) (addTrain l) (addChoice l) (addPoints l) there in-size)))))
 
   -- ---- certificates, searches and saves change nothing
 
@@ -235,12 +265,13 @@ module _ {g : Ledger} {b : List ℤ} (k : Keeps g b) (l : List ℕ) where
       weights = runOf l (weightField .at) weightWidth (weightCount (shapeOf b))
 
       go : (c : Certificate) → certificate b (weightsOf b (certifyFullWeight l) weights) ≡ c → Good g b l (certified (certifyFullWeight l) c b)
-      go Unbalanced h = good-declined k l Sums (record { not-outside = λ w q. omega arith; not-malformed = λ q. omega arith })
+      go Unbalanced h = good-declined k l Sums (record { not-outside = λ w o q. omega arith; not-malformed = λ q. omega arith })
+      go Forbidden h = good-declined k l ForbiddenWeight (record { not-outside = λ w o q. omega arith; not-malformed = λ q. omega arith })
       go (Balanced c) h =
           let w = certify-ceiling b (weightsOf b (certifyFullWeight l) weights) h in
           good-kind g b l kind.Certify (answered b (certifyReply (certifyFullWeight l) c)) e (certify-kind (certifyFullWeight l) c) k
           (ceiling-claim g b l (certifyFullWeight l) c (low .0) (omega (arith, low .1)) (omega (arith, certify-fits (certifyFullWeight l) weights (k .study) (low .1) h)) (rw (w .shown) (w .reached))
-          (ceiling-holds k (weightsOf b (certifyFullWeight l) weights) h))
+          (ceiling-holds k (weightsOf b (certifyFullWeight l) weights) h) (moved-holds k (weightsOf b (certifyFullWeight l) weights) h))
 
   found-right : (budget : ℕ) → Right g (trains b) (searchAnswer b budget)
   unfolding searchAnswer
@@ -289,7 +320,7 @@ module _ {g : Ledger} {b : List ℤ} (k : Keeps g b) (l : List ℕ) where
   pub good-line : (room : ℕ) → longestFixed ≤ room → Good g b l (lineAnswer l b room)
   good-line room h =
       line-cases l b room h (study-well-formed (k .study)) (Good g b l)
-      (λ r e. good-declined k l r (line-allowed l b r e))
+      (λ r e. good-declined k l r (line-allowed g l b r e))
       (λ q a f. good-request q (line-makes l b q (a .asked) .1) (line-known l b q (a .asked)))
       (λ q a f. good-empty)
 

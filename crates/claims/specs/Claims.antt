@@ -3,14 +3,15 @@
 use mathlib.Core.Path.{_≡_}
 use mathlib.Core.Bool.{Bool, true, false, not}
 use mathlib.Core.List.{List, [], _∷_}
-use Prim.Native.Nat.{ℕ, _+_, _*_, _-_, _<_, _≤_}
+use Prim.Native.Nat.{ℕ, _+_, _*_, _-_, _<_, _≤_, _^_}
 use lib.Dec.{eqb}
 use lib.IntN.{ℤ}
-use Rattle.tables.specs.Block.{trains, scale, pairs, constant, size, first, second, loadedChoice, loadedEntry}
-use Rattle.tables.specs.WellFormed.{wellFormed, freshBlock}
-use Rattle.tables.specs.Plans.{AlikeShapes, IsPlan, Branches, LeastOf, shapeOf, heldTotal}
+use Rattle.tables.specs.Block.{heldChoicePlace, heldEntryPlace, at, trains, scale, pairs, constant, size, first, second, loadedChoice, loadedEntry}
+use Rattle.tables.specs.WellFormed.{isOpen, wellFormed, freshBlock}
+use Rattle.tables.specs.Plans.{AlikeShapes, Costs, IsPlan, Open, Branches, LeastOf, shapeOf, heldTotal}
 use Rattle.tables.specs.Counts.{rowsOf, columnsOf}
 use Rattle.certificates.specs.Rival.{Rival, IsRival, ConstantAtMost}
+use Rattle.weights.specs.Rival.{Amounts, Leaves, LiftsAtMost}
 use Rattle.lines.specs.declared.kind.Kind.{Kind}
 use Rattle.lines.specs.declared.kind.Kind.the-variants.{Load, Add, Shift, Tighten, Certify, Search, Save, Round}
 use Rattle.lines.specs.declared.kind.NewKind.the-variants.{Known}
@@ -20,8 +21,8 @@ use Rattle.lines.specs.Layout.{kindOf}
 use Rattle.kinds.specs.Load.{loadRequest}
 use Rattle.decoding.specs.Numbers.{numbersOf}
 use Rattle.reader.specs.Reading.{lineOf}
-use Rattle.replies.specs.Replies.{boundOf, refusalByte, replyKind, flag}
-use Rattle.replies.specs.Shown.{kindShown, numberShown, constantShown, boundShown, flagShown, weightedShown, fullWeightShown, saysEnded, costShown, planShown, showsPlan}
+use Rattle.replies.specs.Replies.{choiceWidth, boundOf, refusalByte, replyKind, flag}
+use Rattle.replies.specs.Shown.{kindShown, numberShown, constantShown, boundShown, flagShown, weightedShown, fullWeightShown, saysEnded, saysEndedWithout, costShown, planShown, showsPlan}
 use Rattle.service.specs.Calls.{Call, Exchange, lastBlock, blocks, exchanges}
 use Rattle.claims.specs.Ledger.{Ledger, accepted, numbersLedger, byKind, fed, ledgerOf, emptyLedger, costOf, hasLoad}
 
@@ -32,6 +33,10 @@ PlanOf g x = IsPlan (g .shape) x
 -- 's × its cost': every plan's total, in parts
 abbrev pub scaledCost : Ledger → (ℕ → ℕ) → ℕ
 scaledCost g x = g .scale * costOf g x
+
+-- change 5: 's × the ledger's costs at that line and constant 0'
+abbrev pub startCosts : Ledger → Costs
+startCosts g = record { constant = 0; choice = λ i a. g .scale * g .costs .choice i a; pair = λ k a c. g .scale * g .costs .pair k a c }
 
 -- ---- replies, by the figures that they show (`Shown` in `replies`)
 
@@ -62,12 +67,16 @@ pub record BoundClaim (g : Ledger) (e : Exchange) : Type 0 where
 pub record CeilingClaim (g : Ledger) (b : List ℤ) (e : Exchange) : Type 0 where
   -- 'The ceiling is E/W parts': W is above 0 (`no-full-weight`)
   pub fullWeight : 0 < fullWeightShown (e .reply)
-  -- 'W × the constant of every rival is at most E' (`certified-ceiling`, `low-ceiling`)
-  pub ceiling : (r : Rival) → IsRival (g .shape) (scaledCost g) r → ConstantAtMost (fullWeightShown (e .reply)) (weightedShown (e .reply)) r
+  -- 'W × the constant of every rival is at most E', where nothing is forbidden: 'Without forbidden entries it reads as before' (`certified-ceiling`, `low-ceiling`). With forbidden entries it fails
+  -- (`clique-wider`)
+  pub ceiling : Open (g .shape) → (r : Rival) → IsRival (g .shape) (scaledCost g) r → ConstantAtMost (fullWeightShown (e .reply)) (weightedShown (e .reply)) r
+  -- 'Start from s × the ledger's costs at that line and constant 0, and make any set of lifts and moves together, fractions allowed, that leaves no permitted entry below 0: the ceiling is at least the
+  -- constant that results', on every study (`low-moved`, `clique-ceiling`)
+  pub moved-ceiling : (up down : Amounts) → Leaves (g .shape) (startCosts g) up down → LiftsAtMost (g .shape) (fullWeightShown (e .reply)) (weightedShown (e .reply)) up down
   -- '01 if reached else 00' (`not-reached`, `reached-above`)
   pub reached : flagShown (e .reply) ≡ flag (reaches b (e .reply))
 
--- 'Search: .. 01 ended or 00 spent, count (4), cost (6), one byte a train'
+-- 'Search: .. 01 ended or 00 spent, count (4), cost (6), one byte a train'; change 5: 02. Of a search that is spent and shows no plan nothing is claimed
 pub record SearchClaim (g : Ledger) (e : Exchange) : Type 0 where
   -- 'every search reply that shows a plan, as each that says ended (01) does' (`ended-without-plan`)
   pub ended : saysEnded (e .reply) ≡ true → showsPlan (e .reply) ≡ true
@@ -75,8 +84,12 @@ pub record SearchClaim (g : Ledger) (e : Exchange) : Type 0 where
   pub shown : showsPlan (e .reply) ≡ true → PlanOf g (planShown (e .reply)) × (costShown (e .reply) ≡ costOf g (planShown (e .reply)))
   -- 'If it says ended, every other plan costs, at that line, at least as much' (`worse-plan`)
   pub least : saysEnded (e .reply) ≡ true → (x : ℕ → ℕ) → PlanOf g x → costShown (e .reply) ≤ costOf g x
+  -- change 5: 'A search that ends without a plan says 02, with cost and plan FF' (`without-cost`, `without-plan`)
+  pub blank : saysEndedWithout (e .reply) ≡ true → (showsPlan (e .reply) ≡ false) × ((i : ℕ) → i < g .shape .trains → planShown (e .reply) i ≡ 256 ^ choiceWidth - 1)
+  -- 'and then no plan exists' (`without-on-j`, `clique-without`)
+  pub none : saysEndedWithout (e .reply) ≡ true → (x : ℕ → ℕ) → PlanOf g x → ⊥
 
--- two ledgers know the same study: n, s, sizes and pairs, and the costs of the choices and entries that there are
+-- two ledgers know the same study: n, s, sizes and pairs, what is forbidden, and the costs of the choices and entries that there are
 pub record SameLedger (h g : Ledger) : Type 0 where
   pub shape-same : AlikeShapes (h .shape) (g .shape)
   pub scale-same : h .scale ≡ g .scale
@@ -95,8 +108,8 @@ pub record RoundClaim (g : Ledger) (e : Exchange) : Type 0 where
   -- 'The lists of demand 3 now include this line': its bound is one 'that a reply shows beside c0' (`high-round`)
   pub bound : BoundClaim g e
   -- 'Where every train has at most one partner of lower number, the constant afterwards equals the least total of any plan', s × the least cost: the bound is the least cost (`low-constant`, `low-round`,
-  -- `settled-round`)
-  pub settled : Branches (g .shape) → (constantShown (e .reply) ≡ g .scale * boundShown (e .reply)) × LeastOf (g .shape) (costOf g) (boundShown (e .reply))
+  -- `settled-round`). Change 5: 'its least-total equality is kept for studies without forbidden entries'
+  pub settled : Open (g .shape) → Branches (g .shape) → (constantShown (e .reply) ≡ g .scale * boundShown (e .reply)) × LeastOf (g .shape) (costOf g) (boundShown (e .reply))
 
 -- each kind's own (`high-bound`, `high-added`, `high-shifted`, `high-tightened`)
 abbrev pub Claim : Kind → Ledger → List ℤ → Exchange → Type 0
@@ -131,7 +144,7 @@ pub record AtLine (g : Ledger) (b : List ℤ) (e : Exchange) : Type 0 where
 
 -- ---- what is claimed of one call, which had the block b
 
--- 'add and tighten never give 12', and no round does
+-- 'add and tighten never give 12', and no round does, where nothing is forbidden
 abbrev pub neverOutside : Kind → Bool
 neverOutside Load = false
 neverOutside Add = true
@@ -145,8 +158,8 @@ neverOutside Round = true
 pub record AtCall (g : Ledger) (b : List ℤ) (e : Exchange) : Type 0 where
   -- 'A line is accepted if its reply isn't empty and doesn't begin with FF'
   pub line : accepted (e .reply) ≡ true → AtLine g b e
-  -- 'From fresh by these lines only' (`add-outside`, `tighten-outside`, `round-outside`)
-  pub never-outside : byKind neverOutside false (e .line) ≡ true → DeclinedAs outside (e .reply) → ⊥
+  -- 'From fresh by these lines only' (`add-outside`, `tighten-outside`, `round-outside`). Change 5: 'Add, tighten and the directional round may now give 12'
+  pub never-outside : byKind neverOutside false (e .line) ≡ true → Open (g .shape) → DeclinedAs outside (e .reply) → ⊥
   -- no line of a list gives 16: each has 'the block that the call before left', 'the first has a fresh block' (`no-malformed`)
   pub never-malformed : DeclinedAs malformed (e .reply) → ⊥
 
@@ -161,16 +174,19 @@ EachCall g (b ∷ bs) (e ∷ es) = AtCall (fed e g) b e × EachCall (fed e g) bs
 
 -- the block b holds the ledger's study
 pub record SameStudy (g : Ledger) (b : List ℤ) : Type 0 where
-  -- 'the block's n, s, sizes and pairs are the ledger's' (`j-shape`)
+  -- 'the block's n, s, sizes and pairs are the ledger's' (`j-shape`), and so is what is forbidden: change 5, 'in the ledger too' (`d-forbidden`, `clique-forbidden`). H says it here
   pub shape-same : AlikeShapes (shapeOf b) (g .shape)
   pub scale-same : scale b ≡ g .scale
   -- 'Loaded costs H' are the ledger's 'costs in points' (`j-costs`)
   pub choices-same : (i a : ℕ) → i < trains b → a < size b i → loadedChoice b i a ≡ g .costs .choice i a
   pub entries-same : (k a c : ℕ) → k < pairs b → a < size b (first b k) → c < size b (second b k) → loadedEntry b k a c ≡ g .costs .pair k a c
+  -- and T as H: 'H and T hold −1' (`d-forbidden`, `clique-forbidden`)
+  pub held-choices-open : (i a : ℕ) → i < trains b → a < size b i → isOpen (at b (heldChoicePlace i a)) ≡ g .shape .choiceOpen i a
+  pub held-entries-open : (k a c : ℕ) → k < pairs b → a < size b (first b k) → c < size b (second b k) → isOpen (at b (heldEntryPlace k a c)) ≡ g .shape .entryOpen k a c
 
 pub record AfterList (g : Ledger) (b : List ℤ) : Type 0 where
   pub same : SameStudy g b
-  -- 'every plan's total by c0 and T is s × its cost' (`j-total`)
+  -- 'every plan's total by c0 and T is s × its cost' (`j-total`); change 5: 'Totals are kept for plans'
   pub totals : (x : ℕ → ℕ) → PlanOf g x → heldTotal b x ≡ scaledCost g x
   -- 'the published bound is at most every plan's cost' (`j-bound`)
   pub bound : (x : ℕ → ℕ) → PlanOf g x → boundOf b ≤ costOf g x

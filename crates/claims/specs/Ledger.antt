@@ -21,7 +21,7 @@ use Rattle.service.specs.Calls.{Exchange}
 unfoldable pub accepted : List ℕ → Bool
 accepted reply = ltb 0 (length reply) && not (eqb (kindShown reply) refusalByte)
 
--- what the ledger knows: n, sizes and pairs; s; costs in points, with no constant
+-- what the ledger knows: n, sizes and pairs, and which choices and pairs of choices are forbidden; s; costs in points, with no constant, and 0 for what is forbidden
 pub record Ledger : Type 0 where
   pub scale : ℕ
   pub shape : Shape
@@ -35,7 +35,7 @@ numbersLedger n = record { scale = n .scale; shape = numbersShape n; costs = num
 abbrev pub emptyLedger : Ledger
 emptyLedger = numbersLedger (numbers 0 [] [] [] [] [])
 
--- the points of an add line, at the choice that it names
+-- the points of an add line, at the choice that it names. Document 02, change 5: 'Forbidden entries stay so under every line that doesn't load, additions included, in the ledger too'
 abbrev pub addedLedger : List ℕ → Ledger → Ledger
 addedLedger l g =
     record {
@@ -44,7 +44,7 @@ addedLedger l g =
       costs =
           record {
             constant = g .costs .constant;
-            choice = λ i a. g .costs .choice i a + cond (eqb i (addTrain l) && eqb a (addChoice l)) (addPoints l) 0;
+            choice = λ i a. g .costs .choice i a + cond (g .shape .choiceOpen i a && (eqb i (addTrain l) && eqb a (addChoice l))) (addPoints l) 0;
             pair = g .costs .pair;
           };
     }
@@ -61,7 +61,7 @@ abbrev pub byKind : {A : Type 0} → (Kind → A) → A → List ℕ → A
 byKind f other l = ifKnown f other (newKind (kindOf l))
 
 -- what the ledger becomes by an accepted line of each kind. 'Accepted load: n, s, sizes, pairs and costs in points become those of the line'; 'Accepted add: the cost of the named choice grows by
--- the line's points'; 'Every other accepted line ..: nothing changes'; document 02, of a round: 'an accepted one changes nothing in the ledger'
+-- the line's points', where that choice isn't forbidden; 'Every other accepted line ..: nothing changes'; document 02, of a round: 'an accepted one changes nothing in the ledger'
 abbrev pub changed : Kind → List ℕ → Ledger → Ledger
 changed Load l g = numbersLedger (numbersOf l)
 changed Add l g = addedLedger l g

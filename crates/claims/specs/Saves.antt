@@ -38,7 +38,7 @@ pub record LoadsAgain (b : List ℤ) : Type 0 where
   -- 'answers with a load line', which is not 'over 19,834 characters'
   pub kind : newKind (kindOf line) ≡ Known Load
   pub frame : Framed line (bytes line)
-  -- every well-formed block accepts it, and then holds a study: no number is below 0, and every unused place is 0
+  -- every well-formed block accepts it, and then holds a study: no number but that of a forbidden entry is below 0, and every unused place is 0
   pub taken : (c : List ℤ) (buffer : List ℕ) → wellFormed c ≡ true → minBuffer ≤ length buffer → accepted (answer line c buffer .reply) ≡ true
   pub study : (c : List ℤ) (buffer : List ℕ) → wellFormed c ≡ true → minBuffer ≤ length buffer → Study (answer line c buffer .block)
   pub same : (c : List ℤ) (buffer : List ℕ) → wellFormed c ≡ true → minBuffer ≤ length buffer → SameLoaded b (answer line c buffer .block)

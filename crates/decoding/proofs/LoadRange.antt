@@ -15,29 +15,33 @@ use Rattle.theory.specs.Lists.{listOf, nth}
 use Rattle.theory.proofs.Sum.{sum-none, sum-more, sum-cong}
 use Rattle.theory.proofs.Lists.{list-length, list-nth, list-past}
 use Rattle.refusals.specs.declared.Verdict.the-variants.{Fine}
-use Rattle.tables.specs.Block.{maxCost}
 use Rattle.tables.specs.Counts.{entriesBefore}
-use Rattle.tables.specs.Numbers.{InRange, listShape}
+use Rattle.tables.specs.Numbers.{InRange, isCost, listShape}
 use Rattle.tables.specs.WellFormed.{before}
 use Rattle.lines.specs.Layout.{costField, loadTrains, loadSize, choiceCount, loadPairs, entryCount, pairAt, loadFirst, loadSecond, numberIn, further, numbersIn, choiceField, pairCountField, entryField}
 use Rattle.lines.specs.Verdicts.{runVerdict}
-use Rattle.lines.proofs.Judged.{field-within, run-within}
+use Rattle.lines.proofs.Judged.{field-within, run-fine}
 use Rattle.kinds.specs.Load.{loadVerdict}
 use Rattle.kinds.proofs.LoadFields.{head-fine, Ordered, pair-ordered}
 use Rattle.kinds.proofs.LoadAccepted.{FineLoad, load-fine, load-sized, load-pair}
 use Rattle.decoding.specs.Numbers.{entriesOf, numbersOf}
 use Rattle.decoding.proofs.Entries.{entries-none, entries-more, entries-length}
 
+-- 0 is a cost
+none-cost : isCost 0 ≡ true
+unfolding isCost
+none-cost = refl
+
 -- each entry of a run of costs that was judged fine, and 0 past its end
-run-costs : (l : List ℕ) (at n : ℕ) → runVerdict l (costField at) n ≡ Fine → (o : ℕ) → nth (numbersIn l (costField at) n) o ≤ maxCost
+run-costs : (l : List ℕ) (at n : ℕ) → runVerdict l (costField at) n ≡ Fine → (o : ℕ) → isCost (nth (numbersIn l (costField at) n) o) ≡ true
 run-costs l at n e o =
     let f : ℕ → ℕ = λ k. numberIn l (further (costField at) k) in
     dite (decLt o n)
-    (λ (q : o < n). rw (list-nth f 0 n o q) (run-within l (costField at) n e refl o q .1))
-    (λ (q : o < n → ⊥). rw (list-past f 0 n o (omega (arith, q))) (omega arith))
+    (λ (q : o < n). rw (list-nth f 0 n o q) (run-fine l (costField at) n e o q .right))
+    (λ (q : o < n → ⊥). rw (list-past f 0 n o (omega (arith, q))) none-cost)
 
 -- entries of two lists that have a limit, one after the other
-append-costs : (p q : List ℕ) → ((o : ℕ) → nth p o ≤ maxCost) → ((o : ℕ) → nth q o ≤ maxCost) → (o : ℕ) → nth (p ++ q) o ≤ maxCost
+append-costs : (p q : List ℕ) → ((o : ℕ) → isCost (nth p o) ≡ true) → ((o : ℕ) → isCost (nth q o) ≡ true) → (o : ℕ) → isCost (nth (p ++ q) o) ≡ true
 append-costs p q f g o =
     dite (decLt o (length p))
     (λ (h : o < length p). rw (List·getD-append p q 0 o h) (f o))
@@ -50,8 +54,8 @@ module _ (l : List ℕ) (f : FineLoad l) where
   ordered k h = pair-ordered l k (load-pair f k h .ordered)
 
   -- the costs of the first k pairs
-  entry-costs : (k : ℕ) → k ≤ loadPairs l → (o : ℕ) → nth (entriesOf l k) o ≤ maxCost
-  entry-costs zero h o = rw (entries-none l) (omega arith)
+  entry-costs : (k : ℕ) → k ≤ loadPairs l → (o : ℕ) → isCost (nth (entriesOf l k) o) ≡ true
+  entry-costs zero h o = rw (entries-none l) none-cost
   entry-costs (suc k) h o =
       rw (← add-one k, entries-more l k)
       (append-costs (entriesOf l k) _ (entry-costs k (omega arith)) (run-costs l (entryField (pairAt l k) .at) (entryCount l (pairAt l k)) (load-pair f k (omega arith) .costs)) o)

@@ -17,9 +17,8 @@ use Rattle.theory.proofs.Lists.{list-is, list-part}
 use Rattle.theory.proofs.Sum.{sum-cong, sum-none, sum-more, sum-part}
 use Rattle.refusals.specs.declared.Verdict.the-variants.{Fine}
 use Rattle.refusals.proofs.Verdicts.{then-both, first-all}
-use Rattle.tables.specs.Block.{maxCost}
 use Rattle.tables.specs.Counts.{entriesBefore}
-use Rattle.tables.specs.Numbers.{Numbers, numbers, numbersShape, InRange}
+use Rattle.tables.specs.Numbers.{Numbers, numbers, isCost, numbersShape, InRange}
 use Rattle.tables.specs.WellFormed.{before}
 use Rattle.frames.specs.Digits.{bytes}
 use Rattle.frames.specs.Fields.{fieldDigits}
@@ -30,7 +29,7 @@ use Rattle.lines.specs.Kinds.{kindNumber}
 use Rattle.lines.specs.Layout.{kindOf, kindWidth, numberIn, endOf, further, numbersIn, countWidth, scaleWidth, costWidth, costField, trainsField, scaleField, sizeField, choiceField, pairCountField, firstField, secondField, entryField, loadTrains, loadScale, loadSize, choiceCount, loadPairs, entryCount, pairAt, loadFirst, loadSecond}
 use Rattle.lines.specs.Text.{pairDigits, pairsDigits, loadDigits}
 use Rattle.lines.specs.Verdicts.{fieldVerdict, runVerdict, endVerdict}
-use Rattle.lines.proofs.Obeyed.{obeys-between, cost-fits, cost-obeys, stands-fine, run-stands-fine, end-judged}
+use Rattle.lines.proofs.Obeyed.{obeys-between, cost-fits, stands-fine, run-stands-fine, end-judged}
 use Rattle.lines.proofs.Pairs.{entriesAt, pairCost, pairOf, pairsOf}
 use Rattle.kinds.specs.Load.{pairOrdered, pairVerdict, pairsVerdict, headVerdict, sizesVerdict, choicesVerdict, pairCountVerdict, restVerdict, loadVerdict}
 use Rattle.kinds.proofs.LoadFields.{pair-next, pair-start}
@@ -149,7 +148,7 @@ module _ {x : Numbers} (r : InRange x) where
     entries-back =
         rw (first-back, second-back, size-back (nth (x .firsts) k) (omega (arith, r .below k h)), size-back (nth (x .seconds) k) (r .below k h .1))
 
-    in-range : (o : ℕ) → pairCost x k o ≤ maxCost
+    in-range : (o : ℕ) → isCost (pairCost x k o) ≡ true
     in-range o = r .entry-costs (entriesBefore (numbersShape x) k + o)
 
     cost-back : (o : ℕ) → o < entriesAt x k → numberIn (loadDigits x) (further (entryField at) o) ≡ pairCost x k o
@@ -162,7 +161,7 @@ module _ {x : Numbers} (r : InRange x) where
     costs-fine =
         rw entries-back
         (run-stands-fine (entryField at) (entriesAt x k) (pairCost x k) rest stands-costs
-        (λ o q. cost-fits (pairCost x k o) (in-range o)) (λ o q. cost-obeys (pairCost x k o) (in-range o)))
+        (λ o q. cost-fits (pairCost x k o) (in-range o)) (λ o q. in-range o))
 
     pair-there : entryField at .at ≤ bytes (loadDigits x)
     pair-there = rw behind at (field-inside countWidth (nth (x .seconds) k) costs stands-second)
@@ -228,7 +227,7 @@ module _ {x : Numbers} (r : InRange x) where
   choices-judged =
       rw (choice-count, choices-at)
       (run-stands-fine (costField (choicesAt x)) (length (x .choices)) (nth (x .choices)) (fromCount x) (stands-choices x)
-      (λ o h. cost-fits (nth (x .choices) o) (r .choice-costs o)) (λ o h. cost-obeys (nth (x .choices) o) (r .choice-costs o)))
+      (λ o h. cost-fits (nth (x .choices) o) (r .choice-costs o)) (λ o h. r .choice-costs o))
 
   count-judged : pairCountVerdict (loadDigits x) ≡ Fine
   count-judged =

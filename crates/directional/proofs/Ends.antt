@@ -1,40 +1,41 @@
--- Where a round ends, for the crates above: it is a rewriting, in which no number falls below 0 and the constant only grows. On every study it leaves each second train without
--- costs, each other train with a free choice and each row of a pair with a free entry, so that where no two pairs have the same second train the constant is the least total.
+-- Where a round ends, for the crates above: it is a rewriting, in which no permitted number falls below 0 and the constant only grows. On every study it leaves the permitted choices of each
+-- second train without costs, each other train with a free choice and each row of a pair with a free entry, if they have a permitted one; so where nothing is forbidden and no two pairs
+-- have the same second train, the constant is the least total.
 use mathlib.Core.Path.{_≡_, refl, sym, ap, _∙_}
 use mathlib.Core.Bool.{true}
 use mathlib.Core.List.{List}
 use mathlib.Core.Logic.{_↔_}
 use Prim.Native.Nat.{ℕ, _+_, _-_, _<_, _≤_}
 use native.Mathlib.Omega.{arith}
-use lib.IntN.{ℤ, pos}
+use lib.IntN.{ℤ}
 use Rattle.theory.specs.Fold.{down}
 use Rattle.theory.proofs.Fold.{down-more, down-ind}
 use Rattle.refusals.specs.declared.Refusal.the-variants.{PartsOutside}
 use Rattle.refusals.specs.declared.Verdict.the-variants.{Fine, Declined}
-use Rattle.tables.specs.Block.{maxParts, at, figure, trains, constant, second}
-use Rattle.tables.specs.Plans.{IsPlan, shapeOf, heldCosts, heldTotal, Branches, LeastOf}
+use Rattle.tables.specs.Block.{maxParts, constantPlace, trains, constant, second}
+use Rattle.tables.specs.Plans.{IsPlan, Open, shapeOf, heldCosts, heldTotal, Branches, LeastOf}
 use Rattle.tables.specs.WellFormed.{holdsStudy, Study}
-use Rattle.tables.proofs.Study.{study-holds, first-below-second, second-below-trains}
-use Rattle.tables.proofs.Plans.{study-shaped, same-shape-total}
+use Rattle.tables.proofs.Limits.{natural-open}
+use Rattle.tables.proofs.Study.{same-figure, first-below-second, second-below-trains}
+use Rattle.tables.proofs.Plans.{study-shaped}
+use Rattle.rewriting.specs.Judged.{kept}
+use Rattle.rewriting.specs.Leasts.{NonNegative}
 use Rattle.rewriting.specs.Ends.{endsOf, Above, SomeEnd}
-use Rattle.rewriting.proofs.Shape.{study-figure, study-shape-in-range, study-non-empty, Moved, none, Any}
-use Rattle.rewriting.proofs.Totals.{moved-keeps-total}
-use Rattle.rewriting.proofs.Reach.{reach-study}
-use Rattle.rewriting.proofs.Rewritten.{rewrites-shape, rewrites-unmet}
+use Rattle.rewriting.proofs.Shape.{study-room, study-shape-in-range, study-non-empty, Moved, none, moved-loaded, Any}
+use Rattle.rewriting.proofs.Opens.{study-constant, study-non-negative}
+use Rattle.rewriting.proofs.Holds.{non-negative-held}
+use Rattle.rewriting.proofs.Rewritten.{rewrites-open, judged-cases}
 use Rattle.rewriting.proofs.Judged.{judged-above}
+use Rattle.weights.proofs.Held.{moved-total, rewrites-within}
 use Rattle.directional.specs.Directional.{trainRound, directed, directOutcome, directBlock}
 use Rattle.directional.specs.Heights.{Ascending}
 use Rattle.directional.proofs.Trees.{Settled, settled-least, least-as}
-use Rattle.directional.proofs.Lanes.{Whole}
 use Rattle.directional.proofs.Heights.{heights-start}
 use Rattle.directional.proofs.Progress.{Progress, progress-train}
 use Rattle.directional.proofs.Turns.{Over, over-train}
 
 pub study-ascending : {b : List ℤ} → Study b → Ascending b
 study-ascending s = record { ascends = first-below-second s }
-
-study-whole : {b : List ℤ} → Study b → Whole b
-study-whole s = record { long = s .whole; natural = λ p. study-figure s p .0 }
 
 module _ {b : List ℤ} (s : Study b) where
   -- where the turns of the trains from t on are over
@@ -44,16 +45,21 @@ module _ {b : List ℤ} (s : Study b) where
 
   pub progress-start : {W : ℕ → Type 0} → Progress b W b
   progress-start {W} =
-      record { moves = 0; chain = none; whole = study-whole s; heights = heights-start (study-shape-in-range s) (study-non-empty s) W (λ p. study-figure s p .1) }
+      record {
+        moves = 0;
+        chain = none;
+        whole = record { long = s .whole; non-negative = study-non-negative s };
+        heights = heights-start (study-shape-in-range s) W (study-room s);
+      }
 
   stage-start : Stage (trains b) b
   stage-start =
       record {
         progress = progress-start;
         over = record {
-          empty = λ k y h d q. absurd (omega (arith, second-below-trains s k h));
-          rows = λ k a h d q. absurd (omega (arith, second-below-trains s k h));
-          lifted = λ i l q. absurd (omega arith);
+          empty = λ k y h d q z. absurd (omega (arith, second-below-trains s k h));
+          rows = λ k a y h d q r z. absurd (omega (arith, second-below-trains s k h));
+          lifted = λ i a l q r z. absurd (omega arith);
           raised = omega arith;
         };
       }
@@ -73,49 +79,49 @@ module _ {b : List ℤ} (s : Study b) where
   pub direct-rewrites : Moved Any b (stage-end .progress .moves) (directed b)
   direct-rewrites = stage-end .progress .chain
 
-  -- no number falls below 0
-  pub direct-natural : (p : ℕ) → at (directed b) p ≡ pos (figure (directed b) p)
-  direct-natural = stage-end .progress .whole .natural
+  -- no open number falls below 0
+  pub direct-natural : NonNegative (directed b)
+  direct-natural = stage-end .progress .whole .non-negative
 
-  pub direct-keeps-total : (x : ℕ → ℕ) → IsPlan (shapeOf b) x → heldTotal (directed b) x ≡ heldTotal b x
-  direct-keeps-total = moved-keeps-total s direct-rewrites direct-natural
+  constant-kept : constant (kept b (directed b)) ≡ constant (directed b)
+  constant-kept = same-figure (directed b) (kept b (directed b)) constantPlace (rewrites-open s direct-rewrites constantPlace (natural-open _ _ (study-constant s)))
 
-  pub direct-raises-constant : constant b ≤ constant (directed b)
-  direct-raises-constant = stage-end .over .raised
+  -- the constant only grows
+  pub direct-raises-constant : constant b ≤ constant (directBlock b)
+  direct-raises-constant = judged-cases s direct-rewrites (λ c. constant b ≤ constant c) (omega arith) (λ t. omega (arith, stage-end .over .raised, constant-kept))
 
-  -- where no plan's total is above L, nothing is declined
-  pub direct-within : ((x : ℕ → ℕ) → IsPlan (shapeOf b) x → heldTotal b x ≤ maxParts) → holdsStudy (directed b) ≡ true
-  direct-within low =
-      study-holds
-      (reach-study s (directed b) (rewrites-shape s direct-rewrites) direct-natural (rewrites-unmet s direct-rewrites)
-      (λ x p. rw (direct-keeps-total x p) (low x p)))
+  -- where nothing is forbidden and no plan's total is above L, nothing is declined
+  pub direct-within : Open (shapeOf b) → ((x : ℕ → ℕ) → IsPlan (shapeOf b) x → heldTotal b x ≤ maxParts) → holdsStudy (kept b (directed b)) ≡ true
+  direct-within o low = rewrites-within s direct-rewrites o direct-natural low
 
-  -- 12, 'c0 or an entry would end below 0 or above L'. Of a round no end is below 0: 'above L' alone is the case, and exactly then
+  -- 12, 'c0 or an entry would end below 0 or above L'. Of a round no permitted end is below 0: 'above L' alone is the case, and exactly then
   pub direct-declined : (directOutcome b ≡ Declined PartsOutside) ↔ SomeEnd Above b (endsOf (directed b))
   direct-declined =
-      judged-above s direct-rewrites (endsOf (directed b)) (record { constant = refl; choice = λ i a h q. refl; entry = λ k a d h q r. refl }) direct-natural
+      judged-above s direct-rewrites (endsOf (directed b)) (record { constant = refl; choice = λ i a h q o. refl; entry = λ k a d h q r o. refl }) direct-natural
 
-  -- a second train costs nothing, every other train has a free choice, and every row of a pair a free entry: on every study, whatever its pairs are
+  -- a second train's permitted choices cost nothing, every other train with a permitted choice has a free one, and every row of a pair with a permitted entry a free one: on every study,
+  -- whatever its pairs are and whatever is forbidden
   pub direct-settled : Settled (shapeOf b) (heldCosts (directed b))
   unfolding heldCosts
   direct-settled =
       let g = stage-end .over in
       record {
-        seconds = λ k a h q. g .empty k a h (omega arith) q;
-        others = λ i h n. let z = g .lifted i (omega arith) h in record { which = z .which; below = z .below; is = z .is };
-        rows = λ k a h q. let z = g .rows k a h (omega arith) q in record { which = z .which; below = z .below; is = z .is };
+        seconds = λ k a h q o. g .empty k a h (omega arith) q o;
+        others = λ i a h q o n. let z = g .lifted i a (omega arith) h q o in record { which = z .which; below = z .below; permitted = z .permitted; is = z .is };
+        rows = λ k a y h q r o. let z = g .rows k a y h (omega arith) q r o in record { which = z .which; below = z .below; permitted = z .permitted; is = z .is };
       }
 
-  -- 'Where every train has at most one partner of lower number, the constant afterwards equals the least total of any plan', by c0 and T as they were
-  pub direct-least : Branches (shapeOf b) → LeastOf (shapeOf b) (heldTotal b) (constant (directed b))
+  -- where nothing is forbidden: 'Where every train has at most one partner of lower number, the constant afterwards equals the least total of any plan', by c0 and T as they were
+  pub direct-least : Open (shapeOf b) → Branches (shapeOf b) → LeastOf (shapeOf b) (heldTotal b) (constant (directed b))
   unfolding heldCosts
-  direct-least one =
-      least-as (settled-least (shapeOf b) (heldCosts (directed b)) (study-shaped s) one direct-settled)
-      (λ x p. sym (same-shape-total (rewrites-shape s direct-rewrites) s (heldCosts (directed b)) x) ∙ direct-keeps-total x p)
+  direct-least o one =
+      let h = study-shape-in-range s in
+      least-as (settled-least (shapeOf b) (heldCosts (directed b)) (study-shaped s) o one direct-settled)
+      (moved-total s direct-rewrites (non-negative-held h (moved-loaded h direct-rewrites) direct-natural))
 
   -- so too of the block, where the round is accepted
-  pub direct-block-least : Branches (shapeOf b) → directOutcome b ≡ Fine → LeastOf (shapeOf b) (heldTotal b) (constant (directBlock b))
-  direct-block-least one e = rw e (direct-least one)
+  pub direct-block-least : Open (shapeOf b) → Branches (shapeOf b) → directOutcome b ≡ Fine → LeastOf (shapeOf b) (heldTotal b) (constant (directBlock b))
+  direct-block-least o one e = rw (e, constant-kept) (direct-least o one)
 
 -- ---- by its turns
 

@@ -1,30 +1,42 @@
--- What the turn of one pair leaves at each place: its second train costs nothing at any choice, each of its rows has an entry that costs nothing, and a choice
--- of its first train grows by no more than an entry and the second train's choice were together. The block c has the shape of b.
-use mathlib.Core.Path.{_≡_, refl, ap, _∙_}
+-- What the turn of one pair leaves at each place: what it takes of its second train's choices goes into its columns, and then the least of each row goes to a choice of its first train.
+-- So its second train's permitted choices cost nothing, and each row with a permitted entry has one that costs nothing. The block c has the shape of b and its H.
+use mathlib.Core.Path.{_≡_, refl, sym, ap, ap₂, _∙_}
+use mathlib.Core.Bool.{true}
 use mathlib.Core.List.{List}
 use mathlib.Core.Logic.{_⊎_, inl, inr, ⊎-elim, dite, _≢_}
 use Prim.Native.Nat.{ℕ, _+_, _*_, _-_, _/_, _%_, _<_, _≤_}
 use native.Mathlib.Decide.{decLt}
 use native.Mathlib.Omega.{arith}
-use lib.IntN.{ℤ}
+use lib.IntN.{ℤ, pos, negℤ, negℤ-negℤ, _+ℤ_}
 use Rattle.theory.specs.Fold.{iter}
-use Rattle.tables.specs.Block.{maxTrains, maxChoices, maxPairs, constantPlace, heldChoicePlace, heldEntryPlace, at, figure, trains, pairs, size, first, second, heldChoice, heldEntry}
-use Rattle.tables.proofs.Study.{SameShape, same-figure, figure-at}
+use Rattle.tables.specs.Block.{maxTrains, maxChoices, maxPairs, constantPlace, heldChoicePlace, heldEntryPlace, at, figure, trains, pairs, size, first, second, heldEntry}
+use Rattle.tables.specs.Plans.{shapeOf}
+use Rattle.tables.proofs.Study.{same-second, figure-at}
 use Rattle.rewriting.specs.declared.sides.PlaceRun.{PlaceRun}
 use Rattle.rewriting.specs.declared.sides.Side.the-variants.{Rows, Columns}
-use Rattle.rewriting.specs.Moves.{ShapeInRange, NonEmpty, runPlace, laneRun, choicesRun}
-use Rattle.rewriting.specs.Leasts.{runLeast, runTightened, laneTightened, lanesTightened}
+use Rattle.rewriting.specs.Moves.{Room, ShapeInRange, runPlace, moveRun, laneRun, choicesRun}
+use Rattle.rewriting.specs.Leasts.{openPlace, runLeast, runTightened, laneTightened, lanesTightened}
 use Rattle.rewriting.proofs.Runs.{Met, Missed, meet}
-use Rattle.rewriting.proofs.Shape.{shape-then, same-lane, same-lanes, lane, lane-train, lanes-most, BetweenCosts, project-between-costs}
-use Rattle.rewriting.proofs.Falls.{run-least-first, run-least-met, tight-met, tight-to}
-use Rattle.directional.specs.Directional.{runTaken, columnTaken, columnsTaken, pairRound}
-use Rattle.directional.proofs.Lanes.{Whole, Of, taken-met, taken-to, taking, tightening, Turned, After, turns, taken-most}
+use Rattle.rewriting.proofs.Shape.{room-figure, SameLoaded, loaded-then, same-lane, same-lanes, lane, lane-train, lanes-most, project-between-costs}
+use Rattle.rewriting.proofs.Falls.{less, run-least-met, run-least-most, tight-is}
+use Rattle.directional.specs.Directional.{costTaken, columnTaken, columnsTaken, pairRound}
+use Rattle.directional.proofs.Distances.{negated-near}
+use Rattle.directional.proofs.Places.{Whole, cost-low, cost-same, entry-same, entry-natural}
+use Rattle.directional.proofs.Lanes.{Of, taken-natural, tight-natural, least-same, Lanes, After, turns, turns-room}
 
--- an entry of row a of pair k, which has as many as b says, that costs nothing in c
+-- a permitted entry of row a of pair k, by b, that costs nothing in c
 pub record ZeroEntry (b c : List ℤ) (k a : ℕ) : Type 0 where
   pub which : ℕ
   pub below : which < size b (second b k)
+  pub permitted : shapeOf b .entryOpen k a which ≡ true
   pub is : heldEntry c k a which ≡ 0
+
+-- what goes from column x of pair k in its turn, and then from row a
+abbrev pub columnSent : List ℤ → ℕ → ℕ → List ℤ → ℤ
+columnSent b k x d = negℤ (pos (costTaken d (second b k) x))
+
+abbrev pub rowSent : List ℤ → ℕ → ℕ → List ℤ → ℤ
+rowSent b k a d = pos (runLeast (laneRun Rows b k a) d)
 
 module _ {b : List ℤ} (s : ShapeInRange b) (k : ℕ) (h : k < pairs b) where
   low : k < maxPairs
@@ -45,47 +57,30 @@ module _ {b : List ℤ} (s : ShapeInRange b) (k : ℕ) (h : k < pairs b) where
       (λ (q : Met (laneRun Columns b k y) p). omega (arith, q .is))
       (λ (q : p ≡ heldChoicePlace (second b k) y). n (omega arith)))
 
-  module _ (c : List ℤ) (u : SameShape b c) (w : Whole c) where
-    column-between : (x : ℕ) → x < size b (second b k) → BetweenCosts (laneRun Columns b k x)
-    column-between x q = project-between-costs s (lane Columns k x h q)
-
-    is-column : (x : ℕ) (d : List ℤ) → x < size b (second b k) → SameShape c d → columnTaken k x d ≡ runTaken (laneRun Columns b k x) d
-    is-column x d q e = ap (λ (r : PlaceRun). runTaken r d) (same-lane (shape-then u e) s k low Columns x)
+  module _ (c : List ℤ) (u : SameLoaded b c) (w : Whole c) where
+    columns : Lanes c (size b (second b k)) (laneRun Columns b k) (columnSent b k) (columnTaken k)
+    columns =
+        record {
+          between = λ x q. project-between-costs s (lane Columns k x h q);
+          apart = columns-apart;
+          is = λ x d q e. let v = loaded-then u e .shape in
+              ap₂ (λ (r : PlaceRun) (j : ℕ). moveRun r (negℤ (pos (costTaken d j x))) d) (same-lane v s k low Columns x) (same-second v k low);
+          same = λ x d q e o. ap (λ (v : ℕ). negℤ (pos v))
+              (cost-same e (second b k) x (lane-train s Columns k h) (omega (arith, lanes-most s Columns k h)) (o (heldChoicePlace (second b k) x) (inr refl)));
+          natural = λ x d q e v. taken-natural (project-between-costs s (lane Columns k x h q)) d v (costTaken d (second b k) x) (cost-low d (second b k) x);
+        }
 
     -- after n columns
-    pub columns-part : (n : ℕ) → n ≤ size b (second b k) → After runTaken c (size b (second b k)) (laneRun Columns b k) n (iter n (columnTaken k) c)
-    columns-part = turns taking c w (size b (second b k)) (laneRun Columns b k) (columnTaken k) column-between is-column columns-apart
+    pub columns-part : (n : ℕ) → n ≤ size b (second b k) → After c (size b (second b k)) (laneRun Columns b k) (columnSent b k) n (iter n (columnTaken k) c)
+    columns-part = turns columns w
 
-    pub columns-most : (m : ℕ) → ((p : ℕ) → figure c p ≤ m) → (n : ℕ) → n ≤ size b (second b k) → (p : ℕ) → figure (iter n (columnTaken k) c) p ≤ m + n * m
-    columns-most = taken-most c w (size b (second b k)) (laneRun Columns b k) (columnTaken k) column-between is-column columns-apart
+    pub columns-room : (m : ℕ) → Room c m → (n : ℕ) → n ≤ size b (second b k) → Room (iter n (columnTaken k) c) (m + n * (2 * m + 3))
+    columns-room m o =
+        turns-room columns w m m o
+        (λ x q. omega (arith, negated-near (costTaken c (second b k) x), cost-low c (second b k) x, room-figure (heldChoicePlace (second b k) x) c m o))
 
-    columns-after : After runTaken c (size b (second b k)) (laneRun Columns b k) (size b (second b k)) (columnsTaken k c)
-    columns-after = rw (same-lanes u s k low Columns) (columns-part (size b (second b k)) (omega arith))
-
-    -- the column of choice y
-    module _ (y : ℕ) (q : y < size b (second b k)) where
-      column : Turned runTaken (laneRun Columns b k y) c (columnsTaken k c)
-      column = columns-after .over y q
-
-      column-choice : heldChoice (columnsTaken k c) (second b k) y ≡ 0
-      column-choice =
-          let t = column in
-          figure-at (columnsTaken k c) (heldChoicePlace (second b k) y) 0
-          (t .end (heldChoicePlace (second b k) y) (inr refl) ∙ taken-to (project-between-costs s (lane Columns k y h q)) (t .from) (t .whole))
-
-      column-entry : (a : ℕ) → a < size b (first b k) → heldEntry (columnsTaken k c) k a y ≡ heldEntry c k a y + heldChoice c (second b k) y
-      column-entry a l =
-          let t = column in
-          let p = heldEntryPlace k a y in
-          let g = heldChoicePlace (second b k) y in
-          let m : Met (laneRun Columns b k y) p = record { turn = a; below = l; is = omega arith } in
-          omega (
-            arith,
-            figure-at (columnsTaken k c) p (figure (t .from) p + figure (t .from) g)
-                (t .end p (inl m) ∙ taken-met (project-between-costs s (lane Columns k y h q)) (t .from) (t .whole) p m),
-            same-figure c (t .from) p (t .start p (inl m)),
-            same-figure c (t .from) g (t .start g (inr refl)),
-          )
+    pub columns-after : After c (size b (second b k)) (laneRun Columns b k) (columnSent b k) (size b (second b k)) (columnsTaken k c)
+    columns-after = rw (same-lanes (u .shape) s k low Columns) (columns-part (size b (second b k)) (omega arith))
 
   -- ---- the rows
 
@@ -102,54 +97,19 @@ module _ {b : List ℤ} (s : ShapeInRange b) (k : ℕ) (h : k < pairs b) where
       (λ (q : Met (laneRun Rows b k y) p). omega (arith, q .is))
       (λ (q : p ≡ heldChoicePlace (first b k) y). n (omega arith)))
 
-  module _ (o : NonEmpty b) (c : List ℤ) (u : SameShape b c) (w : Whole c) where
-    rows-after : After runTightened c (size b (first b k)) (laneRun Rows b k) (size b (first b k)) (lanesTightened Rows k c)
-    rows-after =
-        rw (same-lanes u s k low Rows)
-        (turns tightening c w (size b (first b k)) (laneRun Rows b k) (laneTightened Rows k) (λ x q. project-between-costs s (lane Rows k x h q))
-        (λ x d q e. ap (λ (r : PlaceRun). runTightened r d) (same-lane (shape-then u e) s k low Rows x)) rows-apart (size b (first b k)) (omega arith))
+  module _ (c : List ℤ) (u : SameLoaded b c) (w : Whole c) where
+    rows : Lanes c (size b (first b k)) (laneRun Rows b k) (rowSent b k) (laneTightened Rows k)
+    rows =
+        record {
+          between = λ x q. project-between-costs s (lane Rows k x h q);
+          apart = rows-apart;
+          is = λ x d q e. ap (λ (r : PlaceRun). runTightened r d) (same-lane (loaded-then u e .shape) s k low Rows x) ∙ sym (tight-is (laneRun Rows b k x) d);
+          same = λ x d q e o. ap pos (least-same (project-between-costs s (lane Rows k x h q)) d c e o);
+          natural = λ x d q e v. tight-natural (project-between-costs s (lane Rows k x h q)) d v;
+        }
 
-    -- the row of choice a
-    module _ (a : ℕ) (q : a < size b (first b k)) where
-      row : Turned runTightened (laneRun Rows b k a) c (lanesTightened Rows k c)
-      row = rows-after .over a q
-
-      -- what an entry is left with
-      row-left : (y : ℕ) → y < size b (second b k)
-          → (heldEntry (lanesTightened Rows k c) k a y ≡ figure (row .from) (heldEntryPlace k a y) - runLeast (laneRun Rows b k a) (row .from))
-          × (figure (row .from) (heldEntryPlace k a y) ≡ heldEntry c k a y)
-      row-left y l =
-          let t = row in
-          let p = heldEntryPlace k a y in
-          let m : Met (laneRun Rows b k a) p = record { turn = y; below = l; is = omega arith } in (
-            figure-at (lanesTightened Rows k c) p _
-                (t .end p (inl m) ∙ tight-met (project-between-costs s (lane Rows k a h q)) (t .from) (t .whole .long) (t .whole .natural) p m),
-            same-figure c (t .from) p (t .start p (inl m)),
-          )
-
-      row-entry : (y : ℕ) → y < size b (second b k) → heldEntry (lanesTightened Rows k c) k a y ≤ heldEntry c k a y
-      row-entry y l = omega (arith, row-left y l)
-
-      row-zero : ZeroEntry b (lanesTightened Rows k c) k a
-      row-zero =
-          let m = run-least-met (laneRun Rows b k a) (row .from) (o .sizes (second b k) (o .seconds k h)) in
-          let e : runPlace (laneRun Rows b k a) (m .turn) ≡ heldEntryPlace k a (m .turn) = omega arith in
-          record { which = m .turn; below = m .below; is = omega (arith, row-left (m .turn) (m .below), m .is, ap (figure (row .from)) e) }
-
-      row-choice : heldChoice (lanesTightened Rows k c) (first b k) a ≤ heldChoice c (first b k) a + heldEntry c k a 0
-      row-choice =
-          let t = row in
-          let g = heldChoicePlace (first b k) a in
-          let f = project-between-costs s (lane Rows k a h q) in
-          let e : runPlace (laneRun Rows b k a) 0 ≡ heldEntryPlace k a 0 = omega arith in
-          omega (
-            arith,
-            figure-at (lanesTightened Rows k c) g _ (t .end g (inr refl) ∙ tight-to f (t .from) (t .whole .long) (t .whole .natural)),
-            run-least-first (laneRun Rows b k a) (t .from),
-            ap (figure (t .from)) e,
-            row-left 0 (o .sizes (second b k) (o .seconds k h)),
-            same-figure c (t .from) g (t .start g (inr refl)),
-          )
+    rows-after : After c (size b (first b k)) (laneRun Rows b k) (rowSent b k) (size b (first b k)) (lanesTightened Rows k c)
+    rows-after = rw (same-lanes (u .shape) s k low Rows) (turns rows w (size b (first b k)) (omega arith))
 
 -- ---- the whole turn
 
@@ -203,66 +163,115 @@ module _ {b : List ℤ} (s : ShapeInRange b) (k : ℕ) (h : k < pairs b) where
 
 -- what the turn of pair k makes of c
 pub record PairLeft (b c e : List ℤ) (k : ℕ) : Type 0 where
-  pub shape : SameShape c e
+  pub loaded : SameLoaded c e
   pub whole : Whole e
-  pub empty : (y : ℕ) → y < size b (second b k) → heldChoice e (second b k) y ≡ 0
-  pub rows : (a : ℕ) → a < size b (first b k) → ZeroEntry b e k a
-  pub raised : (a h : ℕ) → a < size b (first b k) → ((y : ℕ) → y < size b (second b k) → heldEntry c k a y + heldChoice c (second b k) y ≤ h)
-      → heldChoice e (first b k) a ≤ heldChoice c (first b k) a + h
-  pub entries : (a y : ℕ) → a < size b (first b k) → y < size b (second b k) → heldEntry e k a y ≤ heldEntry c k a y + heldChoice c (second b k) y
+  pub least : ℕ → ℕ
+  pub firsts : (a : ℕ) → a < size b (first b k) → at e (heldChoicePlace (first b k) a) ≡ at c (heldChoicePlace (first b k) a) +ℤ pos (least a)
+  pub seconds : (y : ℕ) → y < size b (second b k)
+      → at e (heldChoicePlace (second b k) y) ≡ at c (heldChoicePlace (second b k) y) +ℤ negℤ (pos (costTaken c (second b k) y))
+  pub entries : (a y : ℕ) → a < size b (first b k) → y < size b (second b k)
+      → at e (heldEntryPlace k a y) ≡ (at c (heldEntryPlace k a y) +ℤ pos (costTaken c (second b k) y)) +ℤ negℤ (pos (least a))
   pub other : (p : ℕ) → (PairPlace b k p → ⊥) → at e p ≡ at c p
+  -- the least of a row is no more than its permitted entries have after the taking, and is one of them
+  pub most : (a high : ℕ) → a < size b (first b k)
+      → ((y : ℕ) → y < size b (second b k) → shapeOf b .entryOpen k a y ≡ true → heldEntry c k a y + costTaken c (second b k) y ≤ high) → least a ≤ high
+  pub zero : (a y : ℕ) → a < size b (first b k) → y < size b (second b k) → shapeOf b .entryOpen k a y ≡ true → ZeroEntry b e k a
 
-module _ {b : List ℤ} (s : ShapeInRange b) (o : NonEmpty b) (k : ℕ) (h : k < pairs b) (l : first b k < second b k) (c : List ℤ) (u : SameShape b c) (w : Whole c) where
-  -- the block between the columns and the rows
+module _ {b : List ℤ} (s : ShapeInRange b) (k : ℕ) (h : k < pairs b) (l : first b k < second b k) (c : List ℤ) (u : SameLoaded b c) (w : Whole c) where
+  -- the block between the columns and the rows, and the end
   abbrev d : List ℤ
   d = columnsTaken k c
 
-  taken : After runTaken c (size b (second b k)) (laneRun Columns b k) (size b (second b k)) d
+  abbrev e : List ℤ
+  e = lanesTightened Rows k d
+
+  taken : After c (size b (second b k)) (laneRun Columns b k) (columnSent b k) (size b (second b k)) d
   taken = columns-after s k h c u w
 
-  between : SameShape b d
-  between = shape-then u (taken .shape)
+  between : SameLoaded b d
+  between = loaded-then u (taken .loaded)
 
-  tightened : After runTightened d (size b (first b k)) (laneRun Rows b k) (size b (first b k)) (lanesTightened Rows k d)
-  tightened = rows-after s k h o d between (taken .whole)
+  tightened : After d (size b (first b k)) (laneRun Rows b k) (rowSent b k) (size b (first b k)) e
+  tightened = rows-after s k h d between (taken .whole)
 
-  -- a pair's places are in its part of the table, and its second train has a choice
-  small : (second b k < maxTrains) × (size b (first b k) ≤ maxChoices) × (size b (second b k) ≤ maxChoices) × (0 < size b (second b k))
-  small = (lane-train s Columns k h, lanes-most s Rows k h, lanes-most s Columns k h, o .sizes (second b k) (o .seconds k h))
+  abbrev least : ℕ → ℕ
+  least a = runLeast (laneRun Rows b k a) d
+
+  -- a pair's places are in its part of the table
+  small : (second b k < maxTrains) × (size b (first b k) ≤ maxChoices) × (size b (second b k) ≤ maxChoices)
+  small = (lane-train s Columns k h, lanes-most s Rows k h, lanes-most s Columns k h)
 
   -- the columns leave the choices of the first train, and the rows those of the second
-  first-kept : (a : ℕ) → a < size b (first b k) → heldChoice d (first b k) a ≡ heldChoice c (first b k) a
+  first-kept : (a : ℕ) → a < size b (first b k) → at d (heldChoicePlace (first b k) a) ≡ at c (heldChoicePlace (first b k) a)
   first-kept a q =
       let p = heldChoicePlace (first b k) a in
-      same-figure c d p
-      (taken .other p
+      taken .other p
       (λ x r. ⊎-elim (λ (m : Met (laneRun Columns b k x) p). omega (arith, m .is, small))
-      (λ (m : p ≡ heldChoicePlace (second b k) x). omega (arith, small))))
+      (λ (m : p ≡ heldChoicePlace (second b k) x). omega (arith, small)))
 
-  second-kept : (y : ℕ) → y < size b (second b k) → heldChoice (lanesTightened Rows k d) (second b k) y ≡ heldChoice d (second b k) y
+  second-kept : (y : ℕ) → y < size b (second b k) → at e (heldChoicePlace (second b k) y) ≡ at d (heldChoicePlace (second b k) y)
   second-kept y q =
       let p = heldChoicePlace (second b k) y in
-      same-figure d (lanesTightened Rows k d) p
-      (tightened .other p
+      tightened .other p
       (λ x r. ⊎-elim (λ (m : Met (laneRun Rows b k x) p). omega (arith, m .is, small))
-      (λ (m : p ≡ heldChoicePlace (first b k) x). omega (arith, small))))
+      (λ (m : p ≡ heldChoicePlace (first b k) x). omega (arith, small)))
+
+  -- entry (a, y): between the columns and the rows, and at the end
+  module _ (a y : ℕ) (q : a < size b (first b k)) (r : y < size b (second b k)) where
+    entry-taken : at d (heldEntryPlace k a y) ≡ at c (heldEntryPlace k a y) +ℤ pos (costTaken c (second b k) y)
+    entry-taken =
+        let p = heldEntryPlace k a y in
+        taken .met y p r (record { turn = a; below = q; is = omega arith }) ∙ ap (λ (z : ℤ). at c p +ℤ z) (negℤ-negℤ (pos (costTaken c (second b k) y)))
+
+    entry-left : at e (heldEntryPlace k a y) ≡ at d (heldEntryPlace k a y) +ℤ negℤ (pos (least a))
+    entry-left = tightened .met a (heldEntryPlace k a y) q (record { turn = y; below = r; is = omega arith })
+
+    -- as it is met in its row
+    in-row : runPlace (laneRun Rows b k a) y ≡ heldEntryPlace k a y
+    in-row = omega arith
+
+    row-open : openPlace d (runPlace (laneRun Rows b k a) y) ≡ shapeOf b .entryOpen k a y
+    row-open = ap (openPlace d) in-row ∙ entry-same s between k a y h q r
+
+    entry-figure : shapeOf b .entryOpen k a y ≡ true → figure d (runPlace (laneRun Rows b k a) y) ≡ heldEntry c k a y + costTaken c (second b k) y
+    entry-figure o =
+        ap (figure d) in-row
+        ∙ figure-at d (heldEntryPlace k a y) (heldEntry c k a y + costTaken c (second b k) y)
+        (entry-taken ∙ ap (λ (z : ℤ). z +ℤ pos (costTaken c (second b k) y)) (entry-natural s u k a y h q r (w .non-negative) o))
+
+    -- where the entry is the least of its row
+    entry-zero : shapeOf b .entryOpen k a y ≡ true → least a ≡ figure d (runPlace (laneRun Rows b k a) y) → heldEntry e k a y ≡ 0
+    entry-zero o m =
+        let p = heldEntryPlace k a y in
+        let n : least a ≡ figure d p = m ∙ ap (figure d) in-row in
+        omega (
+          arith,
+          figure-at e p (figure d p - least a)
+              (entry-left ∙ ap (λ (z : ℤ). z +ℤ negℤ (pos (least a))) (entry-natural s between k a y h q r (taken .whole .non-negative) o) ∙ less (figure d p) (least a) (omega arith)),
+          n,
+        )
+
+  row-zero : (a y : ℕ) → a < size b (first b k) → y < size b (second b k) → shapeOf b .entryOpen k a y ≡ true → ZeroEntry b e k a
+  row-zero a y q r o =
+      let m = run-least-met (laneRun Rows b k a) d y r (row-open a y q r ∙ o) in
+      let v = sym (row-open a (m .turn) q (m .below)) ∙ m .counts in
+      record { which = m .turn; below = m .below; permitted = v; is = entry-zero a (m .turn) q (m .below) v (m .is) }
+
+  row-most : (a high : ℕ) → a < size b (first b k)
+      → ((y : ℕ) → y < size b (second b k) → shapeOf b .entryOpen k a y ≡ true → heldEntry c k a y + costTaken c (second b k) y ≤ high) → least a ≤ high
+  row-most a high q f =
+      run-least-most (laneRun Rows b k a) d high (λ i r o. let v = sym (row-open a i q r) ∙ o in omega (arith, entry-figure a i q r v, f i r v))
 
   pub pair-left : PairLeft b c (pairRound k c) k
   unfolding pairRound
   pair-left =
       record {
-        shape = shape-then (taken .shape) (tightened .shape);
+        loaded = loaded-then (taken .loaded) (tightened .loaded);
         whole = tightened .whole;
-        empty = λ y q. second-kept y q ∙ column-choice s k h c u w y q;
-        rows = row-zero s k h o d between (taken .whole);
-        raised = λ a n q m. omega (
-          arith,
-          row-choice s k h o d between (taken .whole) a q,
-          column-entry s k h c u w 0 (omega (arith, small)) a q,
-          first-kept a q,
-          m 0 (omega (arith, small)),
-        );
-        entries = λ a y q r. omega (arith, row-entry s k h o d between (taken .whole) a q y r, column-entry s k h c u w y r a q);
+        least = least;
+        firsts = λ a q. tightened .goal a q ∙ ap (λ (z : ℤ). z +ℤ pos (least a)) (first-kept a q);
+        seconds = λ y q. second-kept y q ∙ taken .goal y q;
+        entries = λ a y q r. entry-left a y q r ∙ ap (λ (z : ℤ). z +ℤ negℤ (pos (least a))) (entry-taken a y q r);
         other = λ p n. tightened .other p
             (λ x r. ⊎-elim
             (λ (m : Met (laneRun Rows b k x) p). n (of-entry x (m .turn) r (m .below) (omega (arith, m .is))))
@@ -271,6 +280,8 @@ module _ {b : List ℤ} (s : ShapeInRange b) (o : NonEmpty b) (k : ℕ) (h : k <
             (λ y r. ⊎-elim
             (λ (m : Met (laneRun Columns b k y) p). n (of-entry (m .turn) y (m .below) r (omega (arith, m .is))))
             (λ (m : p ≡ heldChoicePlace (second b k) y). n (of-second y r m)));
+        most = row-most;
+        zero = row-zero;
       }
 
 -- by its calls

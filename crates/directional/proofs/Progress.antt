@@ -1,4 +1,4 @@
--- While a round goes on: it is a chain of moves from where it began, no number is below 0, and the heights stay. A turn of a pair keeps this, and so does a lift.
+-- While a round goes on: it is a chain of moves from where it began, no open number is below 0, and the heights stay. A turn of a pair keeps this, and so does a lift.
 use mathlib.Core.Path.{_≡_, sym, ap, _∙_}
 use mathlib.Core.List.{List}
 use mathlib.Core.Logic.{_≢_}
@@ -9,16 +9,16 @@ use lib.IntN.{ℤ, pos, negℤ}
 use borrow.Author.Tests.{eq-eqb, ne-eqb}
 use Rattle.theory.specs.Fold.{iter}
 use Rattle.theory.proofs.Fold.{iter-ind}
-use Rattle.tables.specs.Block.{heldChoicePlace, figure, trains, pairs, size, first, second}
-use Rattle.tables.proofs.Study.{SameShape, same-pairs, same-first, same-second}
+use Rattle.tables.specs.Block.{trains, pairs, size, first, second}
+use Rattle.tables.proofs.Study.{same-pairs, same-first, same-second}
 use Rattle.rewriting.specs.declared.sides.Side.the-variants.{Rows, Columns}
 use Rattle.rewriting.specs.Moves.{Room, ShapeInRange, NonEmpty, laneRun, choicesRun}
 use Rattle.rewriting.specs.Leasts.{runLeast, runTightened, lanesTightened, trainTightened}
 use Rattle.rewriting.proofs.Runs.{room-more}
-use Rattle.rewriting.proofs.Shape.{shape-in-range-kept, non-empty-kept, same-lanes, Moved, none, moved-shape, moved-unary, lanes-moved, Any}
-use Rattle.directional.specs.Directional.{runTaken, columnsTaken, pairRound, pairTurn, pairsRound, trainRound}
+use Rattle.rewriting.proofs.Shape.{SameLoaded, shape-in-range-kept, non-empty-kept, same-lanes, Moved, none, moved-loaded, moved-shape, moved-unary, lanes-moved, Any}
+use Rattle.directional.specs.Directional.{costTaken, columnsTaken, pairRound, pairTurn, pairsRound, trainRound}
 use Rattle.directional.specs.Heights.{maxHeights, Heights, Ascending, Ready}
-use Rattle.directional.proofs.Lanes.{Whole, whole-of, whole-natural}
+use Rattle.directional.proofs.Places.{Whole}
 use Rattle.directional.proofs.Pair.{pair-left}
 use Rattle.directional.proofs.Train.{train-left}
 use Rattle.directional.proofs.Heights.{heights-map, heights-shape, heights-room, heights-pair, heights-lift}
@@ -33,11 +33,11 @@ pub record Progress (b : List ℤ) (waiting : ℕ → Type 0) (c : List ℤ) : T
 pub progress-map : {b c : List ℤ} {W W′ : ℕ → Type 0} → ((k : ℕ) → W′ k → W k) → Progress b W c → Progress b W′ c
 progress-map f g = record { moves = g .moves; chain = g .chain; whole = g .whole; heights = heights-map f (g .heights) }
 
-pub progress-shape : {b c : List ℤ} {W : ℕ → Type 0} → ShapeInRange b → Progress b W c → SameShape b c
-progress-shape s g = moved-shape s (g .chain)
+pub progress-loaded : {b c : List ℤ} {W : ℕ → Type 0} → ShapeInRange b → Progress b W c → SameLoaded b c
+progress-loaded s g = moved-loaded s (g .chain)
 
 pub progress-room : {b c : List ℤ} {W : ℕ → Type 0} (h : ℕ) → maxHeights ≤ h → Progress b W c → Room c h
-progress-room h l g = room-more h (heights-room (g .whole) (g .heights)) l
+progress-room h l g = room-more h (heights-room (g .heights)) l
 
 -- the pairs that wait while train j has its turn: those of lower second trains, and its own from pair m on
 abbrev pub Waiting : List ℤ → ℕ → ℕ → ℕ → Type 0
@@ -46,11 +46,17 @@ Waiting b j m k = (second b k ≤ j) × (second b k ≡ j → m ≤ k)
 -- where the turn of train j may begin
 pub progress-ready : {b : List ℤ} {j : ℕ} → Ready b j → Progress b (Waiting b j 0) b
 progress-ready {b} r =
-    record { moves = 0; chain = none; whole = whole-of (r .shape-in-range .whole) (r .non-negative); heights = heights-map (λ k v. omega arith) (r .heights) }
+    record {
+      moves = 0;
+      chain = none;
+      whole = record { long = r .shape-in-range .whole; non-negative = r .non-negative };
+      heights = heights-map (λ k v. omega arith) (r .heights);
+    }
 
 pub ready-progress : {b c : List ℤ} {j : ℕ} → ShapeInRange b → NonEmpty b → Ascending b → Progress b (λ k. second b k < j + 1) c → Ready c j
 ready-progress {b} {c} {j} s o asc g =
-    let u = progress-shape s g in
+    let e = progress-loaded s g in
+    let u = e .shape in
     record {
       shape-in-range = shape-in-range-kept u s;
       non-empty = non-empty-kept u s o;
@@ -58,8 +64,8 @@ ready-progress {b} {c} {j} s o asc g =
         ascends = λ k h. let l : k < pairs b = omega (arith, same-pairs u) in
             omega (arith, asc .ascends k l, same-first u k (omega (arith, s .pairs)), same-second u k (omega (arith, s .pairs)));
       };
-      non-negative = whole-natural (g .whole);
-      heights = heights-shape s u (λ k h v. omega (arith, same-second u k (omega (arith, s .pairs)))) (g .heights);
+      non-negative = g .whole .non-negative;
+      heights = heights-shape s e (λ k h v. omega (arith, same-second u k (omega (arith, s .pairs)))) (g .heights);
     }
 
 -- a pair's turn, or none
@@ -77,10 +83,9 @@ waiting-fewer b j m k (p, q) = (p, λ e. omega (arith, q e))
 
 module _ {b : List ℤ} (s : ShapeInRange b) where
   columns-chain : (k n : ℕ) (c : List ℤ) → k < pairs b → Moved Any b n c → Moved Any b (n + size c (second c k)) (columnsTaken k c)
-  unfolding runTaken
   columns-chain k n c h w =
       let e = same-lanes (moved-shape s w) s k (omega (arith, s .pairs)) Columns in
-      lanes-moved s (λ x y. negℤ (pos (figure y (heldChoicePlace (second y k) x)))) Columns k h (λ x y u q. tt) (size c (second c k)) n c (omega arith) w
+      lanes-moved s (λ x y. negℤ (pos (costTaken y (second y k) x))) Columns k h (λ x y u q. tt) (size c (second c k)) n c (omega arith) w
 
   rows-chain : (k n : ℕ) (c : List ℤ) → k < pairs b → Moved Any b n c → Moved Any b (n + size c (first c k)) (lanesTightened Rows k c)
   unfolding runTightened
@@ -99,13 +104,13 @@ module _ {b : List ℤ} (s : ShapeInRange b) where
 
   module _ (o : NonEmpty b) (asc : Ascending b) where
     progress-pair : {W W′ : ℕ → Type 0} (k : ℕ) → k < pairs b → (c : List ℤ) → W k → ((m : ℕ) → W′ m → W m × (m ≢ k)) → Progress b W c → Progress b W′ (pairRound k c)
-    progress-pair k h c here less g =
-        let u = progress-shape s g in
+    progress-pair k h c here fewer g =
+        let u = progress-loaded s g in
         record {
           moves = g .moves + size c (second c k) + size (columnsTaken k c) (first (columnsTaken k c) k);
           chain = pair-chain k (g .moves) c h (g .chain);
-          whole = pair-left s o k h (asc .ascends k h) c u (g .whole) .whole;
-          heights = heights-pair s o k h (asc .ascends k h) c u (g .whole) (g .heights) here less;
+          whole = pair-left s k h (asc .ascends k h) c u (g .whole) .whole;
+          heights = heights-pair s o k h (asc .ascends k h) c u (g .whole) (g .heights) here fewer;
         }
 
     -- pair k, while train j has its turn
@@ -113,7 +118,7 @@ module _ {b : List ℤ} (s : ShapeInRange b) where
     progress-turn j k h c g = by (ℕ-discrete (second b k) j)
       where
         e : second c k ≡ second b k
-        e = same-second (progress-shape s g) k (omega (arith, s .pairs))
+        e = same-second (progress-loaded s g .shape) k (omega (arith, s .pairs))
 
         by : Dec (second b k ≡ j) → Progress b (Waiting b j (k + 1)) (pairTurn j k c)
         by (yes q) =
@@ -127,15 +132,15 @@ module _ {b : List ℤ} (s : ShapeInRange b) where
     progress-part j n l c g = iter-ind (λ m x. Progress b (Waiting b j m) x) n (pairTurn j) c g (λ m x h v. progress-turn j m (omega arith) x v)
 
     pub progress-pairs : (j : ℕ) (c : List ℤ) → Progress b (Waiting b j 0) c → Progress b (Waiting b j (pairs b)) (pairsRound j c)
-    progress-pairs j c g = rw (same-pairs (progress-shape s g)) (progress-part j (pairs b) (omega arith) c g)
+    progress-pairs j c g = rw (same-pairs (progress-loaded s g .shape)) (progress-part j (pairs b) (omega arith) c g)
 
     pub progress-lift : {W : ℕ → Type 0} (j : ℕ) → j < trains b → (c : List ℤ) → Progress b W c → Progress b W (trainTightened j c)
     progress-lift j h c g =
-        let u = progress-shape s g in
+        let u = progress-loaded s g in
         record {
           moves = g .moves + 1;
           chain = train-chain j (g .moves) c h (g .chain);
-          whole = train-left s o j h c u (g .whole) .whole;
+          whole = train-left s j h c u (g .whole) .whole;
           heights = heights-lift s o j h c u (g .whole) (g .heights);
         }
 

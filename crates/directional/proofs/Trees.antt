@@ -1,6 +1,7 @@
--- A plan that costs nothing beyond the constant, train by train from 0 up: a train that is second to no pair takes its free choice; a train that is second
+-- A plan that costs nothing beyond the constant, where nothing is forbidden, train by train from 0 up: a train that is second to no pair takes its free choice; a train that is second
 -- to one pair takes the free entry of that pair in the row of its first train, which is lower and has chosen. Shapes and costs only, for every size.
 use mathlib.Core.Path.{_≡_, sym, ap, _∙_}
+use mathlib.Core.Bool.{true}
 use mathlib.Core.Logic.{_⊎_, inl, inr, ⊎-elim, dite, _≢_}
 use Prim.Native.Nat.{ℕ, zero, suc, _+_, _*_, _<_, _≤_}
 use native.Mathlib.Decide.{ℕ-discrete}
@@ -11,26 +12,28 @@ use Rattle.theory.proofs.Range.{below-suc}
 use Rattle.theory.proofs.Sum.{sum-cong, sum-zero, update-same, update-other}
 use Rattle.units.specs.Units.{roundedUp}
 use Rattle.units.proofs.Bound.{rounded-least, rounded-whole}
-use Rattle.tables.specs.Plans.{Shape, Costs, IsPlan, choiceTotal, pairTotal, total, Branches, LeastOf}
-use Rattle.tables.proofs.Plans.{Shaped, constant-at-most-total}
+use Rattle.tables.specs.Plans.{Shape, Costs, IsPlan, Open, choiceTotal, pairTotal, total, Branches, LeastOf}
+use Rattle.tables.proofs.Plans.{Shaped, open-plan, constant-at-most-total}
 
--- a choice of train i that costs nothing
+-- a permitted choice of train i that costs nothing
 pub record FreeChoice (s : Shape) (t : Costs) (i : ℕ) : Type 0 where
   pub which : ℕ
   pub below : which < s .size i
+  pub permitted : s .choiceOpen i which ≡ true
   pub is : t .choice i which ≡ 0
 
--- an entry of row a of pair k that costs nothing
+-- a permitted entry of row a of pair k that costs nothing
 pub record FreeEntry (s : Shape) (t : Costs) (k a : ℕ) : Type 0 where
   pub which : ℕ
   pub below : which < s .size (s .second k)
+  pub permitted : s .entryOpen k a which ≡ true
   pub is : t .pair k a which ≡ 0
 
--- what a round leaves: the second train of a pair costs nothing at any choice, each other train has a free choice, and each row of a pair a free entry
+-- what a round leaves: a permitted choice of a pair's second train costs nothing, each other train with a permitted choice has a free one, and each row of a pair with a permitted entry a free one
 pub record Settled (s : Shape) (t : Costs) : Type 0 where
-  pub seconds : (k a : ℕ) → k < s .pairs → a < s .size (s .second k) → t .choice (s .second k) a ≡ 0
-  pub others : (i : ℕ) → i < s .trains → ((k : ℕ) → k < s .pairs → s .second k ≢ i) → FreeChoice s t i
-  pub rows : (k a : ℕ) → k < s .pairs → a < s .size (s .first k) → FreeEntry s t k a
+  pub seconds : (k a : ℕ) → k < s .pairs → a < s .size (s .second k) → s .choiceOpen (s .second k) a ≡ true → t .choice (s .second k) a ≡ 0
+  pub others : (i a : ℕ) → i < s .trains → a < s .size i → s .choiceOpen i a ≡ true → ((k : ℕ) → k < s .pairs → s .second k ≢ i) → FreeChoice s t i
+  pub rows : (k a y : ℕ) → k < s .pairs → a < s .size (s .first k) → y < s .size (s .second k) → s .entryOpen k a y ≡ true → FreeEntry s t k a
 
 -- a number below m at which f is v, or there is none
 pub record Found (m : ℕ) (f : ℕ → ℕ) (v : ℕ) : Type 0 where
@@ -85,31 +88,34 @@ module _ (s : Shape) (t : Costs) (sh : Shaped s) where
       at-pair k l q (no e) =
           rw (earlier (s .first k) (omega (arith, sh .ascends k l)), earlier (s .second k) (omega arith)) (g .pairs k l (omega arith))
 
-  module _ (o : Branches s) (w : Settled s t) where
+  module _ (v : Open s) (o : Branches s) (w : Settled s t) where
     -- one train more
     more : (n : ℕ) → n < s .trains → Begun s t n → Begun s t (n + 1)
     more n h g = ⊎-elim second other (find (s .pairs) (s .second) n)
       where
         entry : (f : Found (s .pairs) (s .second) n) → FreeEntry s t (f .which) (g .plan (s .first (f .which))) → Begun s t (n + 1)
         entry f r =
-            next n (r .which) g (rw (f .is) at (r .below)) (rw (f .is) at (w .seconds (f .which) (r .which) (f .below) (r .below)))
+            next n (r .which) g (rw (f .is) at (r .below)) (rw (f .is) at (w .seconds (f .which) (r .which) (f .below) (r .below) (v .choices (s .second (f .which)) (r .which) (sh .inside (f .which) (f .below)) (r .below))))
             (λ l q e. rw (o .one l (f .which) q (f .below) (e ∙ sym (f .is))) (r .is))
 
         second : Found (s .pairs) (s .second) n → Begun s t (n + 1)
         second f =
             let k = f .which in
-            entry f (w .rows k (g .plan (s .first k)) (f .below) (g .inside (s .first k) (omega (arith, sh .ascends k (f .below), f .is))))
+            let a = g .plan (s .first k) in
+            let q = g .inside (s .first k) (omega (arith, sh .ascends k (f .below), f .is)) in
+            let r = sh .filled (s .second k) (sh .inside k (f .below)) in
+            entry f (w .rows k a 0 (f .below) q r (v .entries k a 0 (f .below) q r))
 
         other : ((k : ℕ) → k < s .pairs → s .second k ≢ n) → Begun s t (n + 1)
         other f =
-            let r = w .others n h f in
+            let r = w .others n 0 h (sh .filled n h) (v .choices n 0 h (sh .filled n h)) f in
             next n (r .which) g (r .below) (r .is) (λ k q e. absurd (f k q e))
 
     pub begun : (n : ℕ) → n ≤ s .trains → Begun s t n
     begun zero h = record { plan = λ i. 0; inside = λ i l. absurd (omega arith); choices = λ i l. absurd (omega arith); pairs = λ k l q. absurd (omega arith) }
     begun (suc n) h = rw (← add-one n) (more n (omega arith) (begun n (omega arith)))
 
-    -- the constant is the least total
+    -- where nothing is forbidden and no two pairs have the same second train, the constant is the least total
     pub settled-least : LeastOf s (total s t) (t .constant)
     unfolding total choiceTotal pairTotal
     settled-least =
@@ -117,7 +123,7 @@ module _ (s : Shape) (t : Costs) (sh : Shaped s) where
         record {
           least = λ x p. constant-at-most-total s t x;
           plan = g .plan;
-          is-plan = record { below = g .inside };
+          is-plan = open-plan sh v (g .plan) (g .inside);
           is = omega (
             arith,
             sum-cong (s .trains) (λ i. t .choice i (g .plan i)) (λ i. 0) (g .choices),

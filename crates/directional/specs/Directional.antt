@@ -6,20 +6,20 @@ use lib.Dec.{eqb}
 use lib.IntN.{ℤ, pos, negℤ}
 use Rattle.theory.specs.Fold.{iter, down}
 use Rattle.refusals.specs.declared.Verdict.{Verdict}
-use Rattle.tables.specs.Block.{figure, trains, pairs, size, second}
-use Rattle.rewriting.specs.declared.sides.PlaceRun.{PlaceRun}
+use Rattle.tables.specs.Block.{trains, pairs, size, second, heldChoice}
+use Rattle.tables.specs.Plans.{shapeOf}
 use Rattle.rewriting.specs.declared.sides.Side.the-variants.{Rows, Columns}
 use Rattle.rewriting.specs.Judged.{judged, judgedBlock}
-use Rattle.rewriting.specs.Moves.{moveRun, laneRun}
+use Rattle.rewriting.specs.Moves.{project}
 use Rattle.rewriting.specs.Leasts.{lanesTightened, trainTightened}
 
--- all that stands where a run's costs go is taken into each place of the run
-unfoldable pub runTaken : PlaceRun → List ℤ → List ℤ
-runTaken r b = moveRun r (negℤ (pos (figure b (r .to)))) b
+-- change 5, 'takes c_j(b), unless forbidden': what a round takes of choice a of train i
+unfoldable pub costTaken : List ℤ → ℕ → ℕ → ℕ
+costTaken b i a = cond (shapeOf b .choiceOpen i a) (heldChoice b i a) 0
 
--- pair k takes all of c_j(x), of its second train j, into the entries of column x
+-- pair k takes it of choice x of its second train j, 'off wholly', into the entries of column x
 abbrev pub columnTaken : ℕ → ℕ → List ℤ → List ℤ
-columnTaken k x b = runTaken (laneRun Columns b k x) b
+columnTaken k x b = project Columns k x (negℤ (pos (costTaken b (second b k) x))) b
 
 -- 'each pair (i, j) .. first takes all of c_j(b) into its entries'
 abbrev pub columnsTaken : ℕ → List ℤ → List ℤ
@@ -45,8 +45,9 @@ trainRound j b = trainTightened j (pairsRound j b)
 unfoldable pub directed : List ℤ → List ℤ
 directed b = down (trains b) trainRound b
 
+-- change 5, 'adds it to permitted entries only': what came to stand at a forbidden one is lost when the end is judged
 abbrev pub directOutcome : List ℤ → Verdict
-directOutcome b = judged (directed b)
+directOutcome b = judged b (directed b)
 
 abbrev pub directBlock : List ℤ → List ℤ
 directBlock b = judgedBlock b (directed b)

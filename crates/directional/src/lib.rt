@@ -1,21 +1,22 @@
 // Document 02, change 4: the directional round.
 ghost use mathlib.Core.Path.{_≡_};
 ghost use Prim.Native.Nat.{_<_, _^_};
-ghost use Rattle.tables.specs.Block.{trains, pairs, size, second};
+ghost use lib.ListN.{length};
+ghost use Rattle.tables.specs.Block.{blockLength, maxTrains, maxChoices, trains, pairs, size, second};
 ghost use Rattle.tables.specs.WellFormed.{Study};
-ghost use Rattle.rewriting.specs.Moves.{RunIn, Room, ShapeInRange, NonEmpty, NonNegative};
-ghost use Rattle.directional.specs.Directional.{runTaken, columnTaken, columnsTaken, pairRound, pairTurn, trainRound, directed, directOutcome, directBlock};
+ghost use Rattle.rewriting.specs.Moves.{Room, ShapeInRange};
+ghost use Rattle.rewriting.specs.Leasts.{NonNegative};
+ghost use Rattle.directional.specs.Directional.{costTaken, columnTaken, columnsTaken, pairRound, pairTurn, trainRound, directed, directOutcome, directBlock};
 ghost use Rattle.directional.specs.Heights.{Ready};
 use refusals::Verdict;
 use rewriting::judging;
 use rewriting::leasts;
 use rewriting::moves;
 use rewriting::sides;
-use rewriting::sides::PlaceRun;
 use rewriting::sides::Side;
 use tables::block;
 use tables::block::Block;
-use tables::places;
+use units::Parts;
 
 // Makes a round of the trains, the last first: the costs of each go by its pairs to trains of lower number, and its least to the constant.
 pub fn direct(block: &mut [i64]) -> Verdict
@@ -26,7 +27,7 @@ pub fn direct(block: &mut [i64]) -> Verdict
     let mut end = [0i64; Block::LENGTH];
     judging::copy(&mut end, block);
     round_trains(&mut end);
-    judging::settle(block, &end)
+    judging::settle(block, &mut end)
 }
 
 // Gives each train its turn, from the last to the first.
@@ -57,7 +58,7 @@ fn round_train(b: &mut [i64], j: usize)
 
 // The turn of pair k, where train j is its second.
 fn turn_pair(b: &mut [i64], j: usize, k: usize)
-    requires { ⌜ (ShapeInRange (now b)) × (NonEmpty (now b)) × (NonNegative (now b)) × (Room (now b) (2 ^ 47)) × (k < pairs (now b)) ⌝ }
+    requires { ⌜ (ShapeInRange (now b)) × (NonNegative (now b)) × (Room (now b) (2 ^ 47)) × (k < pairs (now b)) ⌝ }
     ensures { λ _. ⌜ now (b .exit) ≡ pairTurn j k (now (b .entry)) ⌝ }
 {
     if block::second(b, k) == j {
@@ -67,7 +68,7 @@ fn turn_pair(b: &mut [i64], j: usize, k: usize)
 
 // Takes the costs of the second train of pair k into its entries, then moves the least of each row to the first train.
 fn round_pair(b: &mut [i64], k: usize)
-    requires { ⌜ (ShapeInRange (now b)) × (NonEmpty (now b)) × (NonNegative (now b)) × (Room (now b) (2 ^ 47)) × (k < pairs (now b)) ⌝ }
+    requires { ⌜ (ShapeInRange (now b)) × (NonNegative (now b)) × (Room (now b) (2 ^ 47)) × (k < pairs (now b)) ⌝ }
     ensures { λ _. ⌜ now (b .exit) ≡ pairRound k (now (b .entry)) ⌝ }
 {
     take_columns(b, k);
@@ -92,14 +93,18 @@ fn take_column(b: &mut [i64], k: usize, x: usize)
     requires { ⌜ (ShapeInRange (now b)) × (Room (now b) (2 ^ 57)) × (k < pairs (now b)) × (x < size (now b) (second (now b) k)) ⌝ }
     ensures { λ _. ⌜ now (b .exit) ≡ columnTaken k x (now (b .entry)) ⌝ }
 {
-    take_run(b, sides::lane(b, k, Side::Columns, x));
+    let cost = cost_taken(b, block::second(b, k), x);
+    moves::project(b, k, Side::Columns, x, moves::negated(cost.number() as i64));
 }
 
-// Takes all that stands where a run's costs go into each place of the run.
-fn take_run(b: &mut [i64], run: PlaceRun)
-    requires { ⌜ (RunIn (now b) run) × (Room (now b) (2 ^ 57)) ⌝ }
-    ensures { λ _. ⌜ now (b .exit) ≡ runTaken run (now (b .entry)) ⌝ }
+// What a round takes of choice a of train i: all that it costs, or nothing where it is forbidden.
+fn cost_taken(b: &[i64], i: usize, a: usize) -> Parts
+    requires { ⌜ (length (now b) ≡ blockLength) × (i < maxTrains) × (a < maxChoices) ⌝ }
+    ensures { λ r. ⌜ r .0 ≡ costTaken (now (b .entry)) i a ⌝ }
 {
-    let all = places::parts(b, run.to);
-    moves::move_run(b, run, moves::negated(all.number() as i64));
+    let cost = block::held_choice(b, i, a);
+    if block::choice_open(b, i, a) {
+        return cost;
+    }
+    Parts::ZERO
 }

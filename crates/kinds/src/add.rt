@@ -5,17 +5,18 @@ ghost use Rattle.frames.specs.Frames.{Framed};
 ghost use Rattle.lines.specs.declared.kind.Kind.the-variants as kind;
 ghost use Rattle.lines.specs.Layout.{pointsField};
 ghost use Rattle.kinds.specs.Lines.{addVerdict, fieldsLine};
-use crate::load;
 use lines::field::Field;
 use lines::field::Rule;
 use lines::kind::Kind;
 use lines::request::Add;
 use lines::request::Line;
+use lines::request::Load;
 use lines::request::Request;
 use lines::verdict;
 use refusals::Refusal;
 use refusals::Verdict;
 use tables::block;
+use tables::block::Block;
 use units::Points;
 
 // The train and the choice; the study decides how many there are.
@@ -33,11 +34,19 @@ const CHOICE: Field = Field {
     refusal: Refusal::Absent,
 };
 
+// Where the points begin.
+const POINTS_AT: usize = CHOICE.at + CHOICE.width;
+
 // The points.
 fn points_field() -> Field
     ensures { λ r. ⌜ r ≡ pointsField ⌝ }
 {
-    load::cost_field(CHOICE.at + CHOICE.width)
+    Field {
+        at: POINTS_AT,
+        width: Load::COST_WIDTH,
+        rule: Rule::Between(0, Block::COST.number()),
+        refusal: Refusal::Cost,
+    }
 }
 
 // Train, choice and points.

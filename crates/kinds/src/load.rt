@@ -47,14 +47,14 @@ const SIZE: Field = Field {
     refusal: Refusal::Range,
 };
 
-// A cost, or added points, at byte `at`.
+// A cost of a load, at byte `at`.
 pub fn cost_field(at: usize) -> Field
     ensures { λ r. ⌜ r ≡ costField at ⌝ }
 {
     Field {
         at,
         width: Load::COST_WIDTH,
-        rule: Rule::Between(0, Block::COST.number()),
+        rule: Rule::Priced,
         refusal: Refusal::Cost,
     }
 }

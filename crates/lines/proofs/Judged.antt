@@ -15,7 +15,7 @@ use Rattle.refusals.specs.Verdicts.{then, unless}
 use Rattle.refusals.proofs.Verdicts.{then-fine, unless-fine, first-fine}
 use Rattle.frames.specs.Digits.{bytes}
 use Rattle.lines.specs.declared.field.Rule.{Rule}
-use Rattle.lines.specs.declared.field.Rule.the-variants.{Any, Between, Around}
+use Rattle.lines.specs.declared.field.Rule.the-variants.{Any, Between, Around, Priced}
 use Rattle.lines.specs.declared.field.Field.{Field}
 use Rattle.lines.specs.Layout.{numberIn, signedIn, endOf, further}
 use Rattle.lines.specs.Verdicts.{obeys, takesAny, fieldVerdict, runVerdict, endVerdict, lastVerdict, runsVerdict}
@@ -25,6 +25,7 @@ pub any-obeyed : (rule : Rule) (width v : ℕ) → takesAny rule ≡ true → ob
 any-obeyed Any width v e = refl
 any-obeyed (Between low high) width v e = let z : _≡_ {A = ℕ} 0 1 = cc in absurd (omega arith)
 any-obeyed (Around limit) width v e = let z : _≡_ {A = ℕ} 0 1 = cc in absurd (omega arith)
+any-obeyed Priced width v e = let z : _≡_ {A = ℕ} 0 1 = cc in absurd (omega arith)
 
 -- a field is wholly there, and its number is within its rule
 pub record Read (l : List ℕ) (f : Field) : Type 0 where

@@ -7,7 +7,8 @@ use native.Mathlib.Omega.{arith}
 use borrow.Author.Tests.{le-leb, eq-eqb}
 use Rattle.refusals.specs.declared.Verdict.the-variants.{Fine}
 use Rattle.refusals.proofs.Verdicts.{first-all}
-use Rattle.tables.specs.Block.{maxCost}
+use Rattle.tables.specs.Numbers.{isCost}
+use Rattle.tables.proofs.Prices.{cost-high}
 use Rattle.frames.specs.Digits.{bytes}
 use Rattle.frames.specs.Fields.{fieldDigits}
 use Rattle.frames.specs.Runs.{runDigits}
@@ -21,12 +22,9 @@ use Rattle.lines.proofs.Judged.{Read}
 pub obeys-between : {low high : ℕ} (width v : ℕ) → (low ≤ v) × (v ≤ high) → obeys (Between low high) width v ≡ true
 obeys-between {low} {high} width v h = rw (le-leb low v (h .0), le-leb v high (h .1))
 
--- a cost in range fits its field and obeys its rule: all that is asked of a cost here
-pub cost-fits : (v : ℕ) → v ≤ maxCost → v < 256 ^ costWidth
-cost-fits v h = omega arith
-
-pub cost-obeys : (v : ℕ) → v ≤ maxCost → obeys (Between 0 maxCost) costWidth v ≡ true
-cost-obeys v h = obeys-between costWidth v (omega arith, h)
+-- a cost, or that of a forbidden entry, fits its field
+pub cost-fits : (v : ℕ) → isCost v ≡ true → v < 256 ^ costWidth
+cost-fits v h = omega (arith, cost-high v h)
 
 field-judged : (l : List ℕ) (f : Field) → Read l f → fieldVerdict l f ≡ Fine
 unfolding fieldVerdict

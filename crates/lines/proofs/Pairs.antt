@@ -9,7 +9,7 @@ use lib.ListN.{length}
 use Rattle.theory.specs.Lists.{nth}
 use Rattle.tables.specs.Plans.{Shape}
 use Rattle.tables.specs.Counts.{pairEntries, entriesBefore}
-use Rattle.tables.specs.Numbers.{Numbers, numbersShape}
+use Rattle.tables.specs.Numbers.{Numbers}
 use Rattle.frames.specs.Fields.{fieldDigits}
 use Rattle.frames.specs.Runs.{runDigits}
 use Rattle.frames.proofs.RoundTrip.{digits-append, digits-length}
@@ -17,20 +17,20 @@ use Rattle.frames.proofs.RunDigits.{run-append, run-length}
 use Rattle.lines.specs.declared.kind.Kind.the-variants.{Load}
 use Rattle.lines.specs.Kinds.{kindNumber}
 use Rattle.lines.specs.Layout.{kindWidth, countWidth, scaleWidth, costWidth, pairWidth, sizeField}
-use Rattle.lines.specs.Text.{headDigits, pairRun, pairDigits, pairsDigits}
+use Rattle.lines.specs.Text.{headDigits, pairRun, pairDigits, pairsDigits, textShape}
 
 -- how many costs pair k has, cost o of pair k, pair k and the pairs from k on, before other characters
 abbrev pub entriesAt : Numbers → ℕ → ℕ
-entriesAt x = pairEntries (numbersShape x)
+entriesAt x = pairEntries (textShape x)
 
 abbrev pub pairCost : Numbers → ℕ → ℕ → ℕ
-pairCost x k o = nth (x .entries) (entriesBefore (numbersShape x) k + o)
+pairCost x k o = nth (x .entries) (entriesBefore (textShape x) k + o)
 
 abbrev pub pairOf : Numbers → ℕ → List ℕ → List ℕ
-pairOf x = pairDigits (numbersShape x) (x .entries)
+pairOf x = pairDigits (textShape x) (x .entries)
 
 abbrev pub pairsOf : Numbers → ℕ → ℕ → List ℕ → List ℕ
-pairsOf x = pairsDigits (numbersShape x) (x .entries)
+pairsOf x = pairsDigits (textShape x) (x .entries)
 
 -- ---- how long the parts are, and pairs behind pairs
 

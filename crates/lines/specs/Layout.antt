@@ -11,7 +11,7 @@ use Rattle.tables.specs.LineLimits.{maxMove, maxFullWeight, maxBudget}
 use Rattle.frames.specs.Fields.{field, signedField}
 use Rattle.frames.specs.Runs.{runOf}
 use Rattle.lines.specs.declared.field.Rule.{Rule}
-use Rattle.lines.specs.declared.field.Rule.the-variants.{Any, Between, Around}
+use Rattle.lines.specs.declared.field.Rule.the-variants.{Any, Between, Around, Priced}
 use Rattle.lines.specs.declared.field.Field.{Field}
 
 -- 'The first byte is the kind'
@@ -70,9 +70,9 @@ weightWidth = 3
 abbrev pub budgetWidth : ℕ
 budgetWidth = 4
 
--- 7: 'cost or added points over 1,000,000'
+-- 7: 'cost .. over 1,000,000', but 'FFFFFF in a load means' forbidden
 abbrev pub costField : ℕ → Field
-costField at = fieldAs at costWidth (Between 0 maxCost) Cost
+costField at = fieldAs at costWidth Priced Cost
 
 -- ---- 01 load: 'n (1 byte), s (2), sizes (1 each), choice costs by train then choice (3 each), m (1), then each pair'
 
@@ -155,8 +155,9 @@ addChoiceField = fieldAs (endOf addTrainField) countWidth Any Absent
 abbrev pub addChoice : List ℕ → ℕ
 addChoice l = numberIn l addChoiceField
 
+-- 7: 'added points over 1,000,000'; here FFFFFF is no cost
 abbrev pub pointsField : Field
-pointsField = costField (endOf addChoiceField)
+pointsField = fieldAs (endOf addChoiceField) costWidth (Between 0 maxCost) Cost
 
 abbrev pub addPoints : List ℕ → ℕ
 addPoints l = numberIn l pointsField

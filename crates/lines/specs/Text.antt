@@ -5,7 +5,7 @@ use lib.ListN.{length}
 use Rattle.theory.specs.Lists.{nth}
 use Rattle.tables.specs.Plans.{Shape}
 use Rattle.tables.specs.Counts.{pairEntries, entriesBefore}
-use Rattle.tables.specs.Numbers.{Numbers, numbersShape}
+use Rattle.tables.specs.Numbers.{Numbers, listShape}
 use Rattle.frames.specs.Fields.{fieldDigits}
 use Rattle.frames.specs.Runs.{runDigits}
 use Rattle.lines.specs.declared.kind.Kind.the-variants.{Load}
@@ -30,12 +30,16 @@ unfoldable pub pairsDigits : Shape → List ℕ → ℕ → ℕ → List ℕ →
 pairsDigits s entries k zero rest = rest
 pairsDigits s entries k (suc left) rest = pairDigits s entries k (pairsDigits s entries (k + 1) left rest)
 
+-- the shape by which a line's costs stand, which is the same whatever is forbidden
+abbrev pub textShape : Numbers → Shape
+textShape x = listShape (x .sizes) (x .firsts) (x .seconds)
+
 -- 'n (1 byte), s (2), sizes (1 each), choice costs by train then choice (3 each), m (1), then each pair'
 unfoldable pub loadDigits : Numbers → List ℕ
 loadDigits x =
     headDigits (x .scale) (x .sizes)
     (runDigits costWidth (length (x .choices)) (nth (x .choices))
-    (fieldDigits countWidth (length (x .firsts)) (pairsDigits (numbersShape x) (x .entries) 0 (length (x .firsts)) [])))
+    (fieldDigits countWidth (length (x .firsts)) (pairsDigits (textShape x) (x .entries) 0 (length (x .firsts)) [])))
 
 -- how many bytes a load line has, by how many sizes, choice costs, pairs and pair costs
 abbrev pub lineBytes : ℕ → ℕ → ℕ → ℕ → ℕ

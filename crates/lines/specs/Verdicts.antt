@@ -7,10 +7,11 @@ use lib.IntN.{natAbs}
 use Rattle.refusals.specs.declared.Refusal.the-variants.{Fields}
 use Rattle.refusals.specs.declared.Verdict.{Verdict}
 use Rattle.refusals.specs.Verdicts.{then, firstOf, unless}
+use Rattle.tables.specs.Numbers.{isCost}
 use Rattle.frames.specs.Digits.{bytes}
 use Rattle.frames.specs.Fields.{signed}
 use Rattle.lines.specs.declared.field.Rule.{Rule}
-use Rattle.lines.specs.declared.field.Rule.the-variants.{Any, Between, Around}
+use Rattle.lines.specs.declared.field.Rule.the-variants.{Any, Between, Around, Priced}
 use Rattle.lines.specs.declared.field.Field.{Field}
 use Rattle.lines.specs.declared.request.FieldRun.{FieldRun}
 use Rattle.lines.specs.Layout.{numberIn, endOf, further}
@@ -20,12 +21,14 @@ abbrev pub obeys : Rule → ℕ → ℕ → Bool
 obeys Any width v = true
 obeys (Between low high) width v = leb low v && leb v high
 obeys (Around limit) width v = leb (natAbs (signed width v)) limit
+obeys Priced width v = isCost v
 
 -- a rule that takes any number
 abbrev pub takesAny : Rule → Bool
 takesAny Any = true
 takesAny (Between low high) = false
 takesAny (Around limit) = false
+takesAny Priced = false
 
 -- one field: 5 where it is not wholly there, else judged by its rule
 unfoldable pub fieldVerdict : List ℕ → Field → Verdict

@@ -13,6 +13,8 @@ pub enum Rule {
     Between(u64, u64),
     // At most so far from 0, as two's complement.
     Around(u64),
+    // A cost of a load: at most the highest cost, or the mark of a forbidden entry.
+    Priced,
 }
 
 // A field of a line: the byte where it begins, how many bytes it has, what its number must be, and why the line is declined where it is not.

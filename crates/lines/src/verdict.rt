@@ -1,8 +1,9 @@
-// Document 01, 'What is declined': fields from left to right, each judged as soon as it is read, and bytes left over.
+// Document 01, 'What is declined', and document 02, change 5: fields from left to right, each judged as soon as it is read, and bytes left over.
 ghost use mathlib.Core.Path.{_≡_};
 ghost use Prim.Native.Nat.{_+_, _<_, _≤_, _^_};
 ghost use mathlib.Core.Bool.{_&&_};
 ghost use lib.Dec.{leb};
+ghost use Rattle.tables.specs.Numbers.{isCost};
 ghost use Rattle.frames.specs.Fields.{maxWidth};
 ghost use Rattle.frames.specs.Frames.{Framed};
 ghost use Rattle.lines.specs.Layout.{below};
@@ -12,6 +13,7 @@ use crate::field::Rule;
 use frames::fields;
 use refusals::Refusal;
 use refusals::Verdict;
+use tables::block::Block;
 
 // Whether a field's number is within its rule.
 fn obeys(rule: Rule, width: usize, v: u64) -> bool
@@ -22,7 +24,18 @@ fn obeys(rule: Rule, width: usize, v: u64) -> bool
         Rule::Any => true,
         Rule::Between(low, high) => between(low, high, v),
         Rule::Around(limit) => fields::distance(width, v) <= limit,
+        Rule::Priced => is_cost(v),
     }
+}
+
+// Whether a load may give v as a cost: at most the highest cost, or the mark of a forbidden entry.
+fn is_cost(v: u64) -> bool
+    ensures { λ r. ⌜ r ≡ isCost v ⌝ }
+{
+    if v <= Block::COST.number() {
+        return true;
+    }
+    v == Block::FORBIDDEN
 }
 
 // Whether a number is from low to high.
@@ -43,6 +56,7 @@ fn takes_any(rule: Rule) -> bool
         Rule::Any => true,
         Rule::Between(_, _) => false,
         Rule::Around(_) => false,
+        Rule::Priced => false,
     }
 }
 

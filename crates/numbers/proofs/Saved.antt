@@ -8,47 +8,64 @@ use native.Mathlib.Decide.{ℕ-discrete, decLt}
 use native.Mathlib.Nat.{add-assoc, mul-comm}
 use native.Mathlib.Omega.{arith}
 use lib.Dec.{ltb, eqb}
-use lib.IntN.{ℤ, pos}
+use lib.IntN.{ℤ, pos, negsuc}
 use lib.ListN.{length, take, drop, length-drop}
 use lib.Seq.{take-all, getD-drop}
-use borrow.Author.Tests.{ltb-true, ltb-false, ne-eqb}
+use borrow.Author.Tests.{ltb-true, ltb-false, ne-eqb, le-leb}
 use Rattle.theory.specs.Sum.{sum}
 use Rattle.theory.specs.Lists.{listOf, nth, joined}
 use Rattle.theory.proofs.Range.{both-true}
 use Rattle.theory.proofs.Sum.{sum-cong, sum-const, row-part}
 use Rattle.theory.proofs.Lists.{list-length, list-nth, list-cong, list-is, list-part, list-all}
 use Rattle.theory.proofs.Joined.{joined-all, joined-length, joined-nth, joined-is}
-use Rattle.tables.specs.Block.{blockLength, maxTrains, maxChoices, maxPairs, maxCost, trainsPlace, scalePlace, pairsPlace, sizesFrom, firstsFrom, secondsFrom, sizePlace, firstPlace, secondPlace, loadedChoicesFrom, loadedEntriesFrom, entriesOfPair, loadedChoicePlace, loadedEntryPlace, at, figure, trains, scale, pairs, size, first, second}
-use Rattle.tables.specs.WellFormed.{Limits, fromTo, usedIf, choiceUsed, entryUsed, limitsAt, before, follows, pairRight, Study}
+use Rattle.tables.specs.Block.{blockLength, maxTrains, maxChoices, maxPairs, maxCost, trainsPlace, scalePlace, pairsPlace, sizesFrom, firstsFrom, secondsFrom, sizePlace, firstPlace, secondPlace, loadedChoicesFrom, loadedEntriesFrom, entriesOfPair, loadedChoicePlace, loadedEntryPlace, at, nat, figure, trains, scale, pairs, size, first, second, loadedChoice, loadedEntry}
+use Rattle.tables.specs.WellFormed.{Limits, fromTo, costTo, isOpen, usedIf, choiceUsed, entryUsed, limitsAt, before, follows, pairRight, Study}
 use Rattle.tables.specs.Plans.{AlikeShapes, shapeOf}
 use Rattle.tables.specs.Counts.{rowsOf, columnsOf, pairEntries, choicesBefore, choiceCount, entriesBefore, entryCount}
-use Rattle.tables.specs.Numbers.{Numbers, numbers, numbersShape, numbersCosts, InRange}
+use Rattle.tables.specs.Numbers.{Numbers, numbers, numbersShape, numbersCosts, choiceGiven, entryGiven, forbiddenCost, isCost, priced, InRange}
 use Rattle.tables.proofs.Limits.{Within, limits-size, limits-first, limits-second, limits-loaded-choices, limits-loaded-entries}
-use Rattle.tables.proofs.Study.{study-place, trains-range, scale-range, pairs-range, size-range, loaded-choice-range, loaded-entry-range, first-below-second, second-below-trains, first-below-trains, SameShape, same-limits}
+use Rattle.tables.proofs.Study.{study-place, shape-natural, closed-is, trains-range, scale-range, pairs-range, size-range, loaded-choice-range, loaded-entry-range, first-below-second, second-below-trains, first-below-trains, SameShape, same-limits}
+use Rattle.tables.proofs.Prices.{priced-open, priced-nat, priced-is, permitted, forbids}
 use Rattle.tables.proofs.Counting.{choices-part, entries-part}
 use Rattle.operations.specs.Load.{loadedBlock}
 use Rattle.operations.specs.Saved.{savedCost, trainCosts, rowCosts, pairCosts, savedNumbers, SameLoaded, AsLoaded}
-use Rattle.operations.proofs.Loaded.{load-length, at-trains, at-scale, at-pairs, at-size, at-pair, at-choice, at-entry, no-size, no-pair, load-trains, load-scale, load-pairs, load-constant, load-size, load-first, load-second, load-loaded-choice, load-held-choice, load-loaded-entry, load-held-entry, load-study, lanes-of, used-choice, used-entry, region}
+use Rattle.operations.proofs.Loaded.{load-length, at-trains, at-scale, at-pairs, at-size, at-pair, at-choice, at-entry, no-size, no-pair, load-trains, load-scale, load-pairs, load-constant, load-size, load-first, load-second, load-choice-parts, load-entry-parts, load-study, lanes-of, used-choice, used-entry, region}
 
 -- ---- one cost: the only laws that know which number in a load line stands for a place of H
 
--- as the code reads it
-pub cost-figure : (b : List ℤ) (p : ℕ) → figure b p ≡ savedCost (at b p)
-unfolding figure savedCost
-cost-figure b p = refl
+-- as the code reads it, by whether the place is open
+pub cost-open : (b : List ℤ) (p : ℕ) → isOpen (at b p) ≡ true → figure b p ≡ savedCost (at b p)
+unfolding figure savedCost isOpen
+cost-open b p e = go (at b p) e
+  where
+    go : (z : ℤ) → isOpen z ≡ true → nat z ≡ savedCost z
+    go (pos n) e = refl
+    go (negsuc n) e = let z : _≡_ {A = ℕ} 0 1 = cc in absurd (omega arith)
 
--- of what a load stores for a number it is that number again
-cost-back : (z : ℤ) (v : ℕ) → z ≡ pos v → savedCost z ≡ v
+pub cost-closed : (b : List ℤ) (p : ℕ) → isOpen (at b p) ≡ false → forbiddenCost ≡ savedCost (at b p)
+unfolding savedCost isOpen
+cost-closed b p e = go (at b p) e
+  where
+    go : (z : ℤ) → isOpen z ≡ false → forbiddenCost ≡ savedCost z
+    go (pos n) e = let z : _≡_ {A = ℕ} 0 1 = cc in absurd (omega arith)
+    go (negsuc n) e = refl
+
+-- of what a load stores for a cost it is that cost again
+cost-back : (z : ℤ) (c : ℕ) → z ≡ priced c c → savedCost z ≡ c
 unfolding savedCost
-cost-back z v e = ap savedCost e
+cost-back z c e =
+    ap savedCost e
+    ∙ dite (ℕ-discrete c forbiddenCost) (λ (q : c ≡ forbiddenCost). ap savedCost (forbids c c q) ∙ sym q) (λ n. ap savedCost (priced-is c c (permitted c n)))
 
--- a place of H holds what a load stores for its number
-cost-there : {b : List ℤ} {p : ℕ} → Within (fromTo 0 maxCost) b p → at b p ≡ pos (savedCost (at b p))
-cost-there {b} {p} w = w .natural ∙ ap pos (sym (cost-back (at b p) (figure b p) (w .natural)))
-
--- and its number is in range
-cost-range : {b : List ℤ} {p : ℕ} → Within (fromTo 0 maxCost) b p → savedCost (at b p) ≤ maxCost
-cost-range {b} {p} w = omega (arith, w .high, cost-back (at b p) (figure b p) (w .natural))
+-- a place of H holds what a load stores for its number, and its number is a cost
+cost-there : {b : List ℤ} → Study b → (p : ℕ) → p < blockLength → Within (costTo maxCost) b p
+    → (at b p ≡ priced (savedCost (at b p)) (savedCost (at b p))) × (isCost (savedCost (at b p)) ≡ true)
+unfolding figure savedCost isOpen isCost
+cost-there {b} s p h w = go (at b p) (w .high) (closed-is s p h)
+  where
+    go : (z : ℤ) → nat z ≤ maxCost → (isOpen z ≡ false → z ≡ negsuc 0) → (z ≡ priced (savedCost z) (savedCost z)) × (isCost (savedCost z) ≡ true)
+    go (pos n) e f = (sym (priced-is n n (permitted n (λ q. omega arith))), rw (le-leb n maxCost e))
+    go (negsuc n) e f = rw (f refl) (sym (forbids forbiddenCost forbiddenCost refl), refl)
 
 -- the costs of a train and of a row, as the code reads them
 pub train-list : (b : List ℤ) (i : ℕ) {from count : ℕ} → from ≡ loadedChoicePlace i 0 → count ≡ size b i → listOf count (λ a. savedCost (at b (from + a))) ≡ trainCosts b i
@@ -123,15 +140,8 @@ module _ {x : Numbers} (r : InRange x) where
   load-as-loaded =
       record {
         cleared = load-constant r;
-        choices = λ i a h q.
-            let t : i < length (x .sizes) = omega (arith, load-trains r) in
-            let u : a < nth (x .sizes) i = omega (arith, load-size r i t) in
-            rw (load-held-choice r i a t u, load-loaded-choice r i a t u, load-scale r);
-        entries = λ k a d h p q.
-            let t : k < length (x .firsts) = omega (arith, load-pairs r) in
-            let u : a < rowsOf (numbersShape x) k = omega (arith, lanes-of r k t) in
-            let v : d < columnsOf (numbersShape x) k = omega (arith, lanes-of r k t) in
-            rw (load-held-entry r k a d t u v, load-loaded-entry r k a d t u v, load-scale r);
+        choices = load-choice-parts r;
+        entries = load-entry-parts r;
       }
 
 -- ---- of every study
@@ -185,17 +195,6 @@ module _ (b : List ℤ) where
   unfolding savedNumbers
   second-nth k h = list-nth (second b) 0 (pairs b) k h
 
-  -- they have the block's shape
-  pub saved-alike : AlikeShapes (numbersShape (savedNumbers b)) (shapeOf b)
-  saved-alike =
-      record {
-        trains-same = saved-trains;
-        sizes-same = λ i h. size-nth i (omega (arith, saved-trains));
-        pairs-same = saved-pairs;
-        firsts-same = λ k h. first-nth k (omega (arith, saved-pairs));
-        seconds-same = λ k h. second-nth k (omega (arith, saved-pairs));
-      }
-
   choices-start : (i : ℕ) → i ≤ trains b → choicesBefore (numbersShape (savedNumbers b)) i ≡ choicesBefore (shapeOf b) i
   choices-start i h = sum-cong i (nth (savedNumbers b .sizes)) (size b) (λ j q. size-nth j (omega arith))
 
@@ -224,19 +223,61 @@ module _ {b : List ℤ} (s : Study b) where
   rows-there : (k : ℕ) → k < pairs b → rowsOf (numbersShape (savedNumbers b)) k ≡ rowsOf (shapeOf b) k
   rows-there k h = ap (nth (savedNumbers b .sizes)) (first-nth b k h) ∙ size-nth b (first b k) (first-below-trains s k h)
 
+  entry-inside : (k a c : ℕ) → k < pairs b → a < rowsOf (shapeOf b) k → c < columnsOf (shapeOf b) k → loadedEntryPlace k a c < blockLength
+  entry-inside k a c h p q =
+      omega (arith, pairs-range s, size-range s (first b k) (first-below-trains s k h), size-range s (second b k) (second-below-trains s k h))
+
   columns-there : (k : ℕ) → k < pairs b → columnsOf (numbersShape (savedNumbers b)) k ≡ columnsOf (shapeOf b) k
   columns-there k h = ap (nth (savedNumbers b .sizes)) (second-nth b k h) ∙ size-nth b (second b k) (second-below-trains s k h)
 
   entries-start : (k : ℕ) → k ≤ pairs b → entriesBefore (numbersShape (savedNumbers b)) k ≡ entriesBefore (shapeOf b) k
   entries-start k h = sum-cong k (pairEntries (numbersShape (savedNumbers b))) (pairEntries (shapeOf b)) (λ j q. rw (rows-there j (omega arith), columns-there j (omega arith)))
 
-  -- their costs are those of H
-  pub saved-choice : (i a : ℕ) → i < trains b → a < size b i → numbersCosts (savedNumbers b) .choice i a ≡ savedCost (at b (loadedChoicePlace i a))
-  saved-choice i a h q = rw (choices-start b i (omega arith)) (choice-nth b i a h q)
+  -- their costs are the numbers of H
+  given-choice : (i a : ℕ) → i < trains b → a < size b i → choiceGiven (savedNumbers b) i a ≡ savedCost (at b (loadedChoicePlace i a))
+  given-choice i a h q = rw (choices-start b i (omega arith)) (choice-nth b i a h q)
 
-  pub saved-entry : (k a c : ℕ) → k < pairs b → a < rowsOf (shapeOf b) k → c < columnsOf (shapeOf b) k
-      → numbersCosts (savedNumbers b) .pair k a c ≡ savedCost (at b (loadedEntryPlace k a c))
-  saved-entry k a c h p q = rw (entries-start k (omega arith), columns-there k h) (entry-nth b k a c h p q)
+  given-entry : (k a c : ℕ) → k < pairs b → a < rowsOf (shapeOf b) k → c < columnsOf (shapeOf b) k
+      → entryGiven (savedNumbers b) k a c ≡ savedCost (at b (loadedEntryPlace k a c))
+  given-entry k a c h p q = rw (entries-start k (omega arith), columns-there k h) (entry-nth b k a c h p q)
+
+  -- so a load stores them as they stand
+  choice-stored : (i a : ℕ) → i < trains b → a < size b i → at b (loadedChoicePlace i a) ≡ priced (choiceGiven (savedNumbers b) i a) (choiceGiven (savedNumbers b) i a)
+  choice-stored i a h q =
+      cost-there s (loadedChoicePlace i a) (omega (arith, trains-range s, size-range s i h)) (loaded-choice-range s i a h q) .0
+      ∙ ap (λ (v : ℕ). priced v v) (sym (given-choice i a h q))
+
+  entry-stored : (k a c : ℕ) → k < pairs b → a < rowsOf (shapeOf b) k → c < columnsOf (shapeOf b) k
+      → at b (loadedEntryPlace k a c) ≡ priced (entryGiven (savedNumbers b) k a c) (entryGiven (savedNumbers b) k a c)
+  entry-stored k a c h p q =
+      cost-there s (loadedEntryPlace k a c) (entry-inside k a c h p q) (loaded-entry-range s k h a c p q) .0 ∙ ap (λ (v : ℕ). priced v v) (sym (given-entry k a c h p q))
+
+  pub saved-choice : (i a : ℕ) → i < trains b → a < size b i → numbersCosts (savedNumbers b) .choice i a ≡ loadedChoice b i a
+  unfolding figure
+  saved-choice i a h q = sym (ap nat (choice-stored i a h q) ∙ priced-nat (choiceGiven (savedNumbers b) i a))
+
+  pub saved-entry : (k a c : ℕ) → k < pairs b → a < rowsOf (shapeOf b) k → c < columnsOf (shapeOf b) k → numbersCosts (savedNumbers b) .pair k a c ≡ loadedEntry b k a c
+  unfolding figure
+  saved-entry k a c h p q = sym (ap nat (entry-stored k a c h p q) ∙ priced-nat (entryGiven (savedNumbers b) k a c))
+
+  -- they have the block's shape, forbidden entries included
+  pub saved-alike : AlikeShapes (numbersShape (savedNumbers b)) (shapeOf b)
+  saved-alike =
+      record {
+        trains-same = saved-trains b;
+        sizes-same = λ i h. size-nth b i (omega (arith, saved-trains b));
+        pairs-same = saved-pairs b;
+        firsts-same = λ k h. first-nth b k (omega (arith, saved-pairs b));
+        seconds-same = λ k h. second-nth b k (omega (arith, saved-pairs b));
+        choices-open-same = λ i a h q.
+            let t : i < trains b = omega (arith, saved-trains b) in
+            let v = choiceGiven (savedNumbers b) i a in
+            sym (ap isOpen (choice-stored i a t (rw (size-nth b i t) at q)) ∙ priced-open v v);
+        entries-open-same = λ k a c h p q.
+            let t : k < pairs b = omega (arith, saved-pairs b) in
+            let v = entryGiven (savedNumbers b) k a c in
+            sym (ap isOpen (entry-stored k a c t (rw (rows-there k t) at p) (rw (columns-there k t) at q)) ∙ priced-open v v);
+      }
 
   ascends : (k : ℕ) → k + 1 < pairs b → before (first b k) (second b k) (first b (k + 1)) (second b (k + 1)) ≡ true
   unfolding pairRight follows
@@ -247,18 +288,20 @@ module _ {b : List ℤ} (s : Study b) where
       let g = both-true (ltb (second b (k + 1)) (trains b)) (follows b (k + 1)) (f .1) in
       rw (z, e) at (g .1)
 
-  choice-costs-range : (o : ℕ) → nth (savedNumbers b .choices) o ≤ maxCost
-  unfolding savedNumbers
+  choice-costs-range : (o : ℕ) → isCost (nth (savedNumbers b .choices) o) ≡ true
+  unfolding savedNumbers isCost
   choice-costs-range =
-      joined-all (λ v. v ≤ maxCost) (omega arith) (trains b) (trainCosts b)
-      (λ i h. list-all (λ v. v ≤ maxCost) (omega arith) (size b i) _ (λ a q. cost-range (loaded-choice-range s i a h q)))
+      joined-all (λ v. isCost v ≡ true) refl (trains b) (trainCosts b)
+      (λ i h. list-all (λ v. isCost v ≡ true) refl (size b i) _
+      (λ a q. cost-there s (loadedChoicePlace i a) (omega (arith, trains-range s, size-range s i h)) (loaded-choice-range s i a h q) .1))
 
-  entry-costs-range : (o : ℕ) → nth (savedNumbers b .entries) o ≤ maxCost
-  unfolding savedNumbers
+  entry-costs-range : (o : ℕ) → isCost (nth (savedNumbers b .entries) o) ≡ true
+  unfolding savedNumbers isCost
   entry-costs-range =
-      joined-all (λ v. v ≤ maxCost) (omega arith) (pairs b) (pairCosts b)
-      (λ k h. joined-all (λ v. v ≤ maxCost) (omega arith) (size b (first b k)) (rowCosts b k)
-      (λ a p. list-all (λ v. v ≤ maxCost) (omega arith) (size b (second b k)) _ (λ c q. cost-range (loaded-entry-range s k h a c p q))))
+      joined-all (λ v. isCost v ≡ true) refl (pairs b) (pairCosts b)
+      (λ k h. joined-all (λ v. isCost v ≡ true) refl (size b (first b k)) (rowCosts b k)
+      (λ a p. list-all (λ v. isCost v ≡ true) refl (size b (second b k)) _
+      (λ c q. cost-there s (loadedEntryPlace k a c) (entry-inside k a c h p q) (loaded-entry-range s k h a c p q) .1)))
 
   -- the numbers of a study are in range
   pub saved-range : InRange (savedNumbers b)
@@ -287,7 +330,7 @@ unused : {b : List ℤ} → Study b → (p : ℕ) → p < blockLength → limits
 unused {b} s p h e =
     let w : Within (fromTo 0 0) b p = rw e at (study-place s p h) in
     let z : figure b p ≡ 0 = omega (arith, w .high) in
-    w .natural ∙ ap pos z
+    w .natural refl ∙ ap pos z
 
 -- a place whose use is decided by a test, in b and in another block c
 either : {b : List ℤ} → Study b → (c : List ℤ) (p : ℕ) (t : Bool) (l : Limits) → p < blockLength → limitsAt b p ≡ usedIf t l → (t ≡ true → at c p ≡ at b p) → (t ≡ false → at c p ≡ pos 0) → at c p ≡ at b p
@@ -298,9 +341,9 @@ module _ {b : List ℤ} (s : Study b) where
   abbrev again : List ℤ
   again = loadedBlock (savedNumbers b)
 
-  -- the place as it stands in b
-  same-place : (p v : ℕ) → p < blockLength → at again p ≡ pos v → v ≡ figure b p → at again p ≡ at b p
-  same-place p v h e f = e ∙ ap pos f ∙ sym (study-place s p h .natural)
+  -- a place of the shape, as it stands in b
+  same-place : (p v : ℕ) → p < loadedChoicesFrom → at again p ≡ pos v → v ≡ figure b p → at again p ≡ at b p
+  same-place p v h e f = e ∙ ap pos f ∙ sym (shape-natural s p h)
 
   again-trains : at again trainsPlace ≡ at b trainsPlace
   again-trains = same-place trainsPlace _ (omega arith) (at-trains (saved-range s)) (saved-trains b)
@@ -358,11 +401,11 @@ module _ {b : List ℤ} (s : Study b) where
   again-used-choice : (i a : ℕ) → i < trains b → a < size b i → at again (loadedChoicePlace i a) ≡ at b (loadedChoicePlace i a)
   again-used-choice i a h q =
       at-choice (saved-range s) i a (omega (arith, saved-trains b)) (rw (size-nth b i h) q) .one
-      ∙ ap pos (saved-choice s i a h q) ∙ sym (cost-there (loaded-choice-range s i a h q))
+      ∙ sym (choice-stored s i a h q)
 
   again-choice : (o : ℕ) → o < maxTrains * maxChoices → at again (loadedChoicesFrom + o) ≡ at b (loadedChoicesFrom + o)
   again-choice o h =
-      either s again (loadedChoicesFrom + o) (choiceUsed b o) (fromTo 0 maxCost) (omega arith) (limits-loaded-choices b o h) used
+      either s again (loadedChoicesFrom + o) (choiceUsed b o) (costTo maxCost) (omega arith) (limits-loaded-choices b o h) used
       (λ t. again-unused (loadedChoicesFrom + o) (omega arith) (limits-loaded-choices b o h ∙ rw t))
     where
       used : choiceUsed b o ≡ true → at again (loadedChoicesFrom + o) ≡ at b (loadedChoicesFrom + o)
@@ -375,11 +418,11 @@ module _ {b : List ℤ} (s : Study b) where
   again-used-entry : (k a c : ℕ) → k < pairs b → a < size b (first b k) → c < size b (second b k) → at again (loadedEntryPlace k a c) ≡ at b (loadedEntryPlace k a c)
   again-used-entry k a c h p q =
       at-entry (saved-range s) k a c (omega (arith, saved-pairs b)) (rw (rows-there s k h) p) (rw (columns-there s k h) q) .one
-      ∙ ap pos (saved-entry s k a c h p q) ∙ sym (cost-there (loaded-entry-range s k h a c p q))
+      ∙ sym (entry-stored s k a c h p q)
 
   again-entry : (o : ℕ) → o < maxPairs * entriesOfPair → at again (loadedEntriesFrom + o) ≡ at b (loadedEntriesFrom + o)
   again-entry o h =
-      either s again (loadedEntriesFrom + o) (entryUsed b o) (fromTo 0 maxCost) (omega arith) (limits-loaded-entries b o h) used
+      either s again (loadedEntriesFrom + o) (entryUsed b o) (costTo maxCost) (omega arith) (limits-loaded-entries b o h) used
       (λ t. again-unused (loadedEntriesFrom + o) (omega arith) (limits-loaded-entries b o h ∙ rw t))
     where
       used : entryUsed b o ≡ true → at again (loadedEntriesFrom + o) ≡ at b (loadedEntriesFrom + o)

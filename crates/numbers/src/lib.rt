@@ -14,11 +14,14 @@ use tables::block;
 use tables::block::Block;
 use tables::places;
 
-// The number in a load line that loads what stands at place p of H.
+// The number in a load line that loads what stands at place p of H: for −1 that of a forbidden entry.
 fn saved_cost(b: &[i64], p: usize) -> u64
     requires { ⌜ p < length (now b) ⌝ }
     ensures { λ r. ⌜ r ≡ savedCost (at (now (b .entry)) p) ⌝ }
 {
+    if !places::is_open(b, p) {
+        return Block::FORBIDDEN;
+    }
     places::get(b, p)
 }
 

@@ -8,7 +8,8 @@ use Rattle.theory.specs.Sum.{sum}
 use Rattle.theory.specs.Fold.{iter}
 use Rattle.refusals.specs.Verdicts.{verdictNumber}
 use Rattle.tables.specs.Block.{figure, loadedChoicePlace, heldChoicePlace, loadedEntryPlace, heldEntryPlace}
-use Rattle.tables.specs.Numbers.{numbers}
+use Rattle.tables.specs.WellFormed.{isOpen}
+use Rattle.tables.specs.Numbers.{numbers, permits, priced}
 use Rattle.operations.specs.Add.{added, addOutcome, addBlock}
 use Rattle.operations.specs.Load.{loadedBlock}
 
@@ -63,5 +64,5 @@ table =
     ∷ []
 
 pub table-right : T (right table)
-unfolding at-place sum figure iter added loadedBlock right leftRight table
+unfolding isOpen permits priced at-place sum figure iter added loadedBlock right leftRight table
 table-right = tt

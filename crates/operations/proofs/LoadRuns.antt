@@ -14,6 +14,7 @@ use Rattle.theory.proofs.Fold.{iter-ind}
 use Rattle.tables.specs.Block.{blockLength, maxChoices, maxPairs, sizePlace, firstPlace, secondPlace, loadedChoicePlace, heldChoicePlace, loadedEntryPlace, heldEntryPlace, at}
 use Rattle.tables.specs.Plans.{Shape}
 use Rattle.tables.specs.Counts.{rowsOf, columnsOf, choicesBefore, choiceIndex, entriesBefore, entryIndex}
+use Rattle.tables.specs.Numbers.{priced}
 use Rattle.operations.specs.Load.{sizesLoaded, pairsLoaded, runLoaded, choicesLoaded, pairLoaded, entriesLoaded, SizesIn, trainsShape}
 use Rattle.operations.proofs.LoadTurns.{sizeTurn, trainTurn, rowTurn, entriesTurn}
 
@@ -44,36 +45,36 @@ module _ (n : ℕ) (f : ℕ → List ℤ → List ℤ) (b : List ℤ) where
 -- ---- turns that write two places each
 
 -- v stands at place p, and w at place q
-pub record Two (p q v w : ℕ) (x : List ℤ) : Type 0 where
-  pub one : at x p ≡ pos v
-  pub other : at x q ≡ pos w
+pub record Two (p q : ℕ) (v w : ℤ) (x : List ℤ) : Type 0 where
+  pub one : at x p ≡ v
+  pub other : at x q ≡ w
 
--- a cost of v points stands at place p of H, and at place q of T
+-- the cost c stands at place p of H, and at place q of T
 abbrev pub Priced : ℕ → ℕ → ℕ → ℕ → List ℤ → Type 0
-Priced s p q v x = Two p q v (s * v) x
+Priced s p q c x = Two p q (priced c c) (priced c (s * c)) x
 
-pub two-kept : {p q v w : ℕ} {x : List ℤ} (y : List ℤ) → Two p q v w x → at y p ≡ at x p → at y q ≡ at x q → Two p q v w y
+pub two-kept : {p q : ℕ} {v w : ℤ} {x : List ℤ} (y : List ℤ) → Two p q v w x → at y p ≡ at x p → at y q ≡ at x q → Two p q v w y
 two-kept y t e f = record { one = e ∙ t .one; other = f ∙ t .other }
 
-module _ (p q v w : ℕ) (x : List ℤ) where
+module _ (p q : ℕ) (v w : ℤ) (x : List ℤ) where
   -- v is written at place p, and w at place q
   abbrev pub setTwo : List ℤ
-  setTwo = set (set x p (pos v)) q (pos w)
+  setTwo = set (set x p v) q w
 
   pub set-two-length : length setTwo ≡ length x
-  set-two-length = length-set (set x p (pos v)) q (pos w) ∙ length-set x p (pos v)
+  set-two-length = length-set (set x p v) q w ∙ length-set x p v
 
   pub set-two-kept : (o : ℕ) → o ≢ p → o ≢ q → at setTwo o ≡ at x o
-  set-two-kept o h k = getD-set-other (set x p (pos v)) q o (pos w) (pos 0) k ∙ getD-set-other x p o (pos v) (pos 0) h
+  set-two-kept o h k = getD-set-other (set x p v) q o w (pos 0) k ∙ getD-set-other x p o v (pos 0) h
 
   pub set-two : p < length x → q < length x → p ≢ q → Two p q v w setTwo
   set-two h k n =
       record {
-        one = getD-set-other (set x p (pos v)) q p (pos w) (pos 0) n ∙ getD-set-same x p (pos v) (pos 0) h;
-        other = getD-set-same (set x p (pos v)) q (pos w) (pos 0) (omega (arith, length-set x p (pos v)));
+        one = getD-set-other (set x p v) q p w (pos 0) n ∙ getD-set-same x p v (pos 0) h;
+        other = getD-set-same (set x p v) q w (pos 0) (omega (arith, length-set x p v));
       }
 
-module _ (p q v w : ℕ → ℕ) (n : ℕ) (b : List ℤ) where
+module _ (p q : ℕ → ℕ) (v w : ℕ → ℤ) (n : ℕ) (b : List ℤ) where
   abbrev writeTwo : ℕ → List ℤ → List ℤ
   writeTwo k = setTwo (p k) (q k) (v k) (w k)
 
@@ -115,33 +116,36 @@ module _ (sizes : List ℕ) (b : List ℤ) where
 
 module _ (firsts seconds : List ℕ) (b : List ℤ) where
   pub pairs-length : length (pairsLoaded firsts seconds b) ≡ length b
-  pairs-length = writes-length firstPlace secondPlace (nth firsts) (nth seconds) (length firsts) b
+  pairs-length = writes-length firstPlace secondPlace (λ k. pos (nth firsts k)) (λ k. pos (nth seconds k)) (length firsts) b
 
   pub pairs-kept : (p : ℕ) → ((k : ℕ) → k < length firsts → (p ≢ firstPlace k) × (p ≢ secondPlace k)) → at (pairsLoaded firsts seconds b) p ≡ at b p
-  pairs-kept = writes-kept firstPlace secondPlace (nth firsts) (nth seconds) (length firsts) b
+  pairs-kept = writes-kept firstPlace secondPlace (λ k. pos (nth firsts k)) (λ k. pos (nth seconds k)) (length firsts) b
 
   pub pairs-two : length firsts ≤ maxPairs → secondPlace maxPairs ≤ length b → (k : ℕ) → k < length firsts
-      → Two (firstPlace k) (secondPlace k) (nth firsts k) (nth seconds k) (pairsLoaded firsts seconds b)
+      → Two (firstPlace k) (secondPlace k) (pos (nth firsts k)) (pos (nth seconds k)) (pairsLoaded firsts seconds b)
   pairs-two few room k h =
-      writes-two firstPlace secondPlace (nth firsts) (nth seconds) (length firsts) b k h (omega arith) (omega arith) (λ j l. (λ e. omega arith, λ e. omega arith))
+      writes-two firstPlace secondPlace (λ k. pos (nth firsts k)) (λ k. pos (nth seconds k)) (length firsts) b k h (omega arith) (omega arith) (λ j l. (λ e. omega arith, λ e. omega arith))
       (λ j n. (λ e. n (omega arith), λ e. n (omega arith)))
 
--- ---- a run of costs: H from `loaded` on and T = s × H from `held` on, and nothing else
+-- ---- a run of costs: H from `loaded` on and T from `held` on, and nothing else
 
 module _ (s : ℕ) (costs : List ℕ) (start loaded held count : ℕ) (b : List ℤ) where
-  abbrev cost : ℕ → ℕ
-  cost a = nth costs (start + a)
+  abbrev cost : ℕ → ℤ
+  cost a = priced (nth costs (start + a)) (nth costs (start + a))
+
+  abbrev parts : ℕ → ℤ
+  parts a = priced (nth costs (start + a)) (s * nth costs (start + a))
 
   pub run-length : length (runLoaded s costs start loaded held count b) ≡ length b
-  run-length = writes-length (λ a. loaded + a) (λ a. held + a) cost (λ a. s * cost a) count b
+  run-length = writes-length (λ a. loaded + a) (λ a. held + a) cost parts count b
 
   pub run-kept : (p : ℕ) → ((a : ℕ) → a < count → (p ≢ loaded + a) × (p ≢ held + a)) → at (runLoaded s costs start loaded held count b) p ≡ at b p
-  run-kept = writes-kept (λ a. loaded + a) (λ a. held + a) cost (λ a. s * cost a) count b
+  run-kept = writes-kept (λ a. loaded + a) (λ a. held + a) cost parts count b
 
   pub run-two : loaded + count ≤ held → held + count ≤ length b → (a : ℕ) → a < count
       → Priced s (loaded + a) (held + a) (nth costs (start + a)) (runLoaded s costs start loaded held count b)
   run-two apart room a h =
-      writes-two (λ i. loaded + i) (λ i. held + i) cost (λ i. s * cost i) count b a h (omega arith) (omega arith) (λ j l. (λ e. omega arith, λ e. omega arith))
+      writes-two (λ i. loaded + i) (λ i. held + i) cost parts count b a h (omega arith) (omega arith) (λ j l. (λ e. omega arith, λ e. omega arith))
       (λ j n. (λ e. n (omega arith), λ e. n (omega arith)))
 
 -- ---- the choices

@@ -4,7 +4,7 @@ use mathlib.Core.List.{List, [], _∷_, _++_}
 use Prim.Native.Nat.{ℕ, _+_, _*_, _<_, _≤_}
 use native.Mathlib.Numerals.{add-one}
 use native.Mathlib.Omega.{arith}
-use lib.IntN.{ℤ, pos}
+use lib.IntN.{ℤ, pos, negsuc}
 use lib.ListN.{length, set, take, replicate, replicate-append-replicate}
 use lib.Seq.{take-suc-set}
 use Rattle.theory.specs.Fold.{iter}
@@ -13,10 +13,11 @@ use Rattle.theory.proofs.Fold.{iter-more}
 use Rattle.units.specs.Units.{Sound, theScale}
 use Rattle.tables.specs.Block.{trainsPlace, scalePlace, pairsPlace, sizePlace, firstPlace, secondPlace, loadedChoicePlace, heldChoicePlace, loadedEntryPlace, heldEntryPlace}
 use Rattle.tables.specs.WellFormed.{freshBlock}
-use Rattle.tables.specs.Numbers.{Numbers, InRange, numbersShape}
 use Rattle.tables.specs.Plans.{Shape}
 use Rattle.tables.specs.Counts.{rowsOf, columnsOf, choicesBefore, entriesBefore}
-use Rattle.operations.specs.Load.{headLoaded, sizesLoaded, pairsLoaded, runLoaded, choicesLoaded, pairLoaded, entriesLoaded, loadedBlock, SizesIn, PairsIn}
+use Rattle.tables.specs.Numbers.{Numbers, InRange, numbersShape, forbiddenCost}
+use Rattle.tables.proofs.Prices.{forbids, permitted, priced-is}
+use Rattle.operations.specs.Load.{headLoaded, sizesLoaded, pairsLoaded, runLoaded, choicesLoaded, pairLoaded, entriesLoaded, loadedBlock, costLoaded, SizesIn, PairsIn}
 
 -- ---- the turns of the loops
 
@@ -27,7 +28,7 @@ abbrev pub pairTurn : List ℕ → List ℕ → ℕ → List ℤ → List ℤ
 pairTurn firsts seconds k d = set (set d (firstPlace k) (pos (nth firsts k))) (secondPlace k) (pos (nth seconds k))
 
 abbrev pub runTurn : ℕ → List ℕ → ℕ → ℕ → ℕ → ℕ → List ℤ → List ℤ
-runTurn s costs start loaded held a d = set (set d (loaded + a) (pos (nth costs (start + a)))) (held + a) (pos (s * nth costs (start + a)))
+runTurn s costs start loaded held a = costLoaded s (nth costs (start + a)) (loaded + a) (held + a)
 
 abbrev pub trainTurn : ℕ → Shape → List ℕ → ℕ → List ℤ → List ℤ
 trainTurn s t choices i = runLoaded s choices (choicesBefore t i) (loadedChoicePlace i 0) (heldChoicePlace i 0) (t .size i)
@@ -45,10 +46,15 @@ cleared b p h e =
     ap (λ (n : ℕ). take n (set b p (pos 0))) (add-one p) ∙ take-suc-set b p (pos 0) h ∙ ap (λ (l : List ℤ). l ++ (pos 0 ∷ [])) e
     ∙ replicate-append-replicate p 1 (pos 0)
 
-pub run-more : (s : ℕ) (costs : List ℕ) (start loaded held a : ℕ) (b : List ℤ) {c d e : List ℤ} {x : ℕ}
-    → c ≡ iter a (runTurn s costs start loaded held) b → d ≡ set c (loaded + a) (pos (nth costs (start + a)))
-    → x ≡ s * nth costs (start + a) → e ≡ set d (held + a) (pos x) → e ≡ iter (a + 1) (runTurn s costs start loaded held) b
-run-more s costs start loaded held a b p q r t = cc (iter-more a (runTurn s costs start loaded held) b)
+-- a cost, of a permitted entry and of a forbidden one
+pub cost-by : (s c p q : ℕ) (b : List ℤ) {d e : List ℤ} {x : ℕ} → (c ≡ forbiddenCost → ⊥)
+    → d ≡ set b p (pos c) → x ≡ s * c → e ≡ set d q (pos x) → e ≡ costLoaded s c p q b
+cost-by s c p q b n f g h =
+    let t = permitted c n in
+    h ∙ rw (f, g, priced-is c c t, priced-is c (s * c) t)
+
+pub closed-by : (s c p q : ℕ) (b : List ℤ) {d e : List ℤ} → c ≡ forbiddenCost → d ≡ set b p (negsuc 0) → e ≡ set d q (negsuc 0) → e ≡ costLoaded s c p q b
+closed-by s c p q b t f g = g ∙ rw (f, forbids c c t, forbids c (s * c) t)
 
 pub head-by : (n s m size : ℕ) {c d e f : List ℤ} → c ≡ replicate size (pos 0) → d ≡ set c trainsPlace (pos n) → e ≡ set d scalePlace (pos s) → f ≡ set e pairsPlace (pos m)
     → f ≡ headLoaded n s m (replicate size (pos 0))

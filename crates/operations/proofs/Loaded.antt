@@ -17,13 +17,14 @@ use Rattle.theory.specs.Lists.{nth}
 use Rattle.theory.proofs.Range.{both-true}
 use Rattle.theory.proofs.Sum.{sum-cong, sum-scale}
 use Rattle.units.specs.Units.{scaleMin, scaleMax}
-use Rattle.tables.specs.Block.{blockLength, maxTrains, maxChoices, maxPairs, maxCost, maxParts, trainsPlace, scalePlace, pairsPlace, constantPlace, sizesFrom, firstsFrom, secondsFrom, sizePlace, firstPlace, secondPlace, loadedChoicesFrom, heldChoicesFrom, loadedEntriesFrom, heldEntriesFrom, entriesOfPair, loadedChoicePlace, heldChoicePlace, loadedEntryPlace, heldEntryPlace, at, trains, scale, pairs, constant, size, first, second, loadedChoice, heldChoice, loadedEntry, heldEntry}
-use Rattle.tables.specs.WellFormed.{Limits, fromTo, within, usedIf, choiceUsed, entryUsed, headLimits, limitsAt, follows, pairRight, Study, freshBlock}
-use Rattle.tables.specs.Plans.{IsPlan, choiceTotal, pairTotal, total, shapeOf, loadedCosts, heldCosts, loadedTotal, heldTotal}
-use Rattle.tables.specs.Numbers.{Numbers, InRange, numbersShape, numbersCosts}
+use Rattle.tables.specs.Block.{blockLength, maxTrains, maxChoices, maxPairs, maxCost, maxParts, trainsPlace, scalePlace, pairsPlace, constantPlace, sizesFrom, firstsFrom, secondsFrom, sizePlace, firstPlace, secondPlace, loadedChoicesFrom, heldChoicesFrom, loadedEntriesFrom, heldEntriesFrom, entriesOfPair, loadedChoicePlace, heldChoicePlace, loadedEntryPlace, heldEntryPlace, at, nat, figure, trains, scale, pairs, constant, size, first, second, loadedChoice, heldChoice, loadedEntry, heldEntry}
+use Rattle.tables.specs.WellFormed.{Limits, fromTo, costTo, within, isOpen, mate, usedIf, choiceUsed, entryUsed, headLimits, limitsAt, follows, pairRight, Study, freshBlock}
+use Rattle.tables.specs.Plans.{AlikeShapes, IsPlan, choiceTotal, pairTotal, total, shapeOf, loadedCosts, heldCosts, loadedTotal, heldTotal}
+use Rattle.tables.specs.Numbers.{Numbers, InRange, numbersShape, numbersCosts, choiceGiven, entryGiven, permits, priced}
 use Rattle.tables.specs.Counts.{rowsOf, columnsOf}
+use Rattle.tables.proofs.Prices.{priced-open, priced-nat, priced-parts, priced-mates, priced-within, cost-most}
 use Rattle.tables.proofs.Limits.{within-pos, choice-used, entry-used, limits-head, limits-size, limits-first, limits-second, limits-loaded-choices, limits-held-choices, limits-loaded-entries, limits-held-entries}
-use Rattle.tables.proofs.Study.{figure-at}
+use Rattle.tables.proofs.Study.{figure-at, first-below-trains, second-below-trains}
 use Rattle.operations.specs.Load.{headLoaded, sizesLoaded, pairsLoaded, choicesLoaded, loadedBlock}
 use Rattle.operations.proofs.LoadTurns.{in-sizes}
 use Rattle.operations.proofs.LoadRuns.{Two, Priced, two-kept, sizes-length, sizes-kept, sizes-at, pairs-length, pairs-kept, pairs-two, choices-length, choices-kept, choices-two, entries-length, entries-kept, entries-two}
@@ -64,8 +65,8 @@ sized l = sizesLoaded (l .sizes) (headed l)
 abbrev shaped : Numbers → List ℤ
 shaped l = pairsLoaded (l .firsts) (l .seconds) (sized l)
 
-abbrev priced : Numbers → List ℤ
-priced l = choicesLoaded (l .scale) (numbersShape l) (l .choices) (shaped l)
+abbrev chosen : Numbers → List ℤ
+chosen l = choicesLoaded (l .scale) (numbersShape l) (l .choices) (shaped l)
 
 module _ {l : Numbers} (r : InRange l) where
   headed-length : length (headed l) ≡ blockLength
@@ -77,17 +78,17 @@ module _ {l : Numbers} (r : InRange l) where
   shaped-length : length (shaped l) ≡ blockLength
   shaped-length = pairs-length (l .firsts) (l .seconds) (sized l) ∙ sized-length
 
-  priced-length : length (priced l) ≡ blockLength
-  priced-length = choices-length (l .scale) (l .sizes) (l .choices) (shaped l) (in-sizes r) ∙ shaped-length
+  chosen-length : length (chosen l) ≡ blockLength
+  chosen-length = choices-length (l .scale) (l .sizes) (l .choices) (shaped l) (in-sizes r) ∙ shaped-length
 
   pub load-length : length (loadedBlock l) ≡ blockLength
   unfolding loadedBlock
-  load-length = entries-length (l .scale) (numbersShape l) (l .entries) (priced l) ∙ priced-length
+  load-length = entries-length (l .scale) (numbersShape l) (l .entries) (chosen l) ∙ chosen-length
 
   -- the entries are past the other places
-  before-entries : (p : ℕ) → p < loadedEntriesFrom → at (loadedBlock l) p ≡ at (priced l) p
+  before-entries : (p : ℕ) → p < loadedEntriesFrom → at (loadedBlock l) p ≡ at (chosen l) p
   unfolding loadedBlock
-  before-entries p h = entries-kept (l .scale) (numbersShape l) (l .entries) (priced l) p (λ k a c i q t. (λ e. omega arith, λ e. omega arith))
+  before-entries p h = entries-kept (l .scale) (numbersShape l) (l .entries) (chosen l) p (λ k a c i q t. (λ e. omega arith, λ e. omega arith))
 
   -- and the choices past the shape
   before-choices : (p : ℕ) → p < loadedChoicesFrom → at (loadedBlock l) p ≡ at (shaped l) p
@@ -137,13 +138,13 @@ module _ {l : Numbers} (r : InRange l) where
   at-size i h =
       before-pairs (sizePlace i) (omega (arith, r .trains .1)) ∙ sizes-at (l .sizes) (headed l) i h (omega (arith, r .trains .1, headed-length))
 
-  pub at-pair : (k : ℕ) → k < length (l .firsts) → Two (firstPlace k) (secondPlace k) (nth (l .firsts) k) (nth (l .seconds) k) (loadedBlock l)
+  pub at-pair : (k : ℕ) → k < length (l .firsts) → Two (firstPlace k) (secondPlace k) (pos (nth (l .firsts) k)) (pos (nth (l .seconds) k)) (loadedBlock l)
   at-pair k h =
       two-kept (loadedBlock l) (pairs-two (l .firsts) (l .seconds) (sized l) (r .pairs .0) (omega (arith, sized-length)) k h)
       (before-choices (firstPlace k) (omega (arith, r .pairs .0))) (before-choices (secondPlace k) (omega (arith, r .pairs .0)))
 
   pub at-choice : (i a : ℕ) → i < length (l .sizes) → a < nth (l .sizes) i
-      → Priced (l .scale) (loadedChoicePlace i a) (heldChoicePlace i a) (numbersCosts l .choice i a) (loadedBlock l)
+      → Priced (l .scale) (loadedChoicePlace i a) (heldChoicePlace i a) (choiceGiven l i a) (loadedBlock l)
   at-choice i a h q =
       let few = r .trains .1 in
       let small = r .sizes i h .1 in
@@ -156,16 +157,16 @@ module _ {l : Numbers} (r : InRange l) where
       let b = r .below k h in (r .sizes (nth (l .firsts) k) (omega arith) .1, r .sizes (nth (l .seconds) k) (b .1) .1)
 
   pub at-entry : (k a c : ℕ) → k < length (l .firsts) → a < rowsOf (numbersShape l) k → c < columnsOf (numbersShape l) k
-      → Priced (l .scale) (loadedEntryPlace k a c) (heldEntryPlace k a c) (numbersCosts l .pair k a c) (loadedBlock l)
+      → Priced (l .scale) (loadedEntryPlace k a c) (heldEntryPlace k a c) (entryGiven l k a c) (loadedBlock l)
   unfolding loadedBlock
-  at-entry = entries-two (l .scale) (numbersShape l) (l .entries) (priced l) priced-length (r .pairs .0) pair-lanes
+  at-entry = entries-two (l .scale) (numbersShape l) (l .entries) (chosen l) chosen-length (r .pairs .0) pair-lanes
 
   -- ---- unused places
 
   pub no-size : (i : ℕ) → length (l .sizes) ≤ i → i < maxTrains → at (loadedBlock l) (sizePlace i) ≡ pos 0
   no-size i h q = before-pairs (sizePlace i) (omega arith) ∙ past-sizes (sizePlace i) (omega arith) (omega arith)
 
-  pub no-pair : (k : ℕ) → length (l .firsts) ≤ k → k < maxPairs → Two (firstPlace k) (secondPlace k) 0 0 (loadedBlock l)
+  pub no-pair : (k : ℕ) → length (l .firsts) ≤ k → k < maxPairs → Two (firstPlace k) (secondPlace k) (pos 0) (pos 0) (loadedBlock l)
   no-pair k h q =
       let few = r .trains .1 in
       record {
@@ -187,7 +188,7 @@ module _ {l : Numbers} (r : InRange l) where
       → at (loadedBlock l) p ≡ pos 0
   unfolding loadedBlock
   no-entry p h q out =
-      entries-kept (l .scale) (numbersShape l) (l .entries) (priced l) p out
+      entries-kept (l .scale) (numbersShape l) (l .entries) (chosen l) p out
       ∙ choices-kept (l .scale) (l .sizes) (l .choices) (shaped l) (in-sizes r) p
       (λ i a t u. let few = r .trains .1 in let small = r .sizes i t .1 in (λ e. omega arith, λ e. omega arith)) ∙ past-shape p (omega arith) q
 
@@ -216,17 +217,27 @@ module _ {l : Numbers} (r : InRange l) where
 
   module _ (i a : ℕ) (h : i < length (l .sizes)) (q : a < nth (l .sizes) i) where
     pub load-loaded-choice : loadedChoice (loadedBlock l) i a ≡ numbersCosts l .choice i a
-    load-loaded-choice = figure-at (loadedBlock l) (loadedChoicePlace i a) _ (at-choice i a h q .one)
+    unfolding figure
+    load-loaded-choice = ap nat (at-choice i a h q .one) ∙ priced-nat (choiceGiven l i a)
 
     pub load-held-choice : heldChoice (loadedBlock l) i a ≡ l .scale * numbersCosts l .choice i a
-    load-held-choice = figure-at (loadedBlock l) (heldChoicePlace i a) _ (at-choice i a h q .other)
+    unfolding figure
+    load-held-choice = ap nat (at-choice i a h q .other) ∙ priced-parts (l .scale) (choiceGiven l i a)
+
+    pub load-choice-open : isOpen (at (loadedBlock l) (loadedChoicePlace i a)) ≡ permits (choiceGiven l i a)
+    load-choice-open = ap isOpen (at-choice i a h q .one) ∙ priced-open (choiceGiven l i a) (choiceGiven l i a)
 
   module _ (k a c : ℕ) (h : k < length (l .firsts)) (p : a < rowsOf (numbersShape l) k) (q : c < columnsOf (numbersShape l) k) where
     pub load-loaded-entry : loadedEntry (loadedBlock l) k a c ≡ numbersCosts l .pair k a c
-    load-loaded-entry = figure-at (loadedBlock l) (loadedEntryPlace k a c) _ (at-entry k a c h p q .one)
+    unfolding figure
+    load-loaded-entry = ap nat (at-entry k a c h p q .one) ∙ priced-nat (entryGiven l k a c)
 
     pub load-held-entry : heldEntry (loadedBlock l) k a c ≡ l .scale * numbersCosts l .pair k a c
-    load-held-entry = figure-at (loadedBlock l) (heldEntryPlace k a c) _ (at-entry k a c h p q .other)
+    unfolding figure
+    load-held-entry = ap nat (at-entry k a c h p q .other) ∙ priced-parts (l .scale) (entryGiven l k a c)
+
+    pub load-entry-open : isOpen (at (loadedBlock l) (loadedEntryPlace k a c)) ≡ permits (entryGiven l k a c)
+    load-entry-open = ap isOpen (at-entry k a c h p q .one) ∙ priced-open (entryGiven l k a c) (entryGiven l k a c)
 
 -- ---- used offsets, and places by their offsets, in every block
 
@@ -263,6 +274,19 @@ used-right : (b : List ℤ) (p v : ℕ) (t : Bool) (low high : ℕ) → limitsAt
     → (t ≡ true → (at b p ≡ pos v) × (low ≤ v) × (v ≤ high)) → (t ≡ false → at b p ≡ pos 0) → Right b p
 used-right b p v true low high e f g = let w = f refl in place-right b p v (fromTo low high) e (w .0) (w .1) (w .2)
 used-right b p v false low high e f g = place-right b p 0 (fromTo 0 0) e (g refl) (omega arith) (omega arith)
+
+-- a cost, or −1
+cost-right : (b : List ℤ) (p c v : ℕ) (t : Bool) (high : ℕ) → limitsAt b p ≡ usedIf t (costTo high)
+    → (t ≡ true → (at b p ≡ priced c v) × (permits c ≡ true → v ≤ high)) → (t ≡ false → at b p ≡ pos 0) → Right b p
+cost-right b p c v true high e f g = let w = f refl in rw (e, w .0) (priced-within c v high (w .1))
+cost-right b p c v false high e f g = place-right b p 0 (fromTo 0 0) e (g refl) (omega arith) (omega arith)
+
+-- two tables that hold mates at a used offset, and 0 at any other
+both-mated : {p q : ℕ} {y z : ℤ} {b : List ℤ} (t : Bool) → (t ≡ true → Two p q y z b) → (t ≡ false → Two p q (pos 0) (pos 0) b) → mate y z ≡ true
+    → mate (at b p) (at b q) ≡ true
+unfolding mate isOpen
+both-mated true f g m = let x = f refl in rw (x .one, x .other) m
+both-mated false f g m = let x = g refl in rw (x .one, x .other)
 
 module _ {l : Numbers} (r : InRange l) where
   head-right : (p : ℕ) → p < sizesFrom → Right (loadedBlock l) p
@@ -315,7 +339,7 @@ module _ {l : Numbers} (r : InRange l) where
 
   -- H and T at a used offset
   choice-at : (o : ℕ) → choiceUsed (loadedBlock l) o ≡ true
-      → Priced (l .scale) (loadedChoicesFrom + o) (heldChoicesFrom + o) (numbersCosts l .choice (o / maxChoices) (o % maxChoices)) (loadedBlock l)
+      → Priced (l .scale) (loadedChoicesFrom + o) (heldChoicesFrom + o) (choiceGiven l (o / maxChoices) (o % maxChoices)) (loadedBlock l)
   choice-at o t =
       let w = choice-there o t in
       let e : maxChoices * (o / maxChoices) + o % maxChoices ≡ o = omega arith in
@@ -324,18 +348,23 @@ module _ {l : Numbers} (r : InRange l) where
   in-parts : (c : ℕ) → c ≤ maxCost → l .scale * c ≤ maxParts
   in-parts c h = omega (arith, mul-le-mul (r .scale .1) h)
 
+  -- and at any other
+  choice-none : (o : ℕ) → o < maxTrains * maxChoices → choiceUsed (loadedBlock l) o ≡ false → Two (loadedChoicesFrom + o) (heldChoicesFrom + o) (pos 0) (pos 0) (loadedBlock l)
+  choice-none o h f =
+      record {
+        one = no-choice r (loadedChoicesFrom + o) (omega arith) (omega arith) (λ i a t q. (λ e. choice-apart o f i a t q (omega arith), λ e. omega arith));
+        other = no-choice r (heldChoicesFrom + o) (omega arith) (omega arith) (λ i a t q. (λ e. omega (arith, r .trains .1, r .sizes i t), λ e. choice-apart o f i a t q (omega arith)));
+      }
+
   loaded-choices-right : (o : ℕ) → o < maxTrains * maxChoices → Right (loadedBlock l) (loadedChoicesFrom + o)
   loaded-choices-right o h =
-      used-right (loadedBlock l) (loadedChoicesFrom + o) _ (choiceUsed (loadedBlock l) o) 0 maxCost (limits-loaded-choices (loadedBlock l) o h)
-      (λ t. (choice-at o t .one, omega arith, r .choice-costs _))
-      (λ f. no-choice r (loadedChoicesFrom + o) (omega arith) (omega arith) (λ i a t q. (λ e. choice-apart o f i a t q (omega arith), λ e. omega arith)))
+      cost-right (loadedBlock l) (loadedChoicesFrom + o) _ _ (choiceUsed (loadedBlock l) o) maxCost (limits-loaded-choices (loadedBlock l) o h)
+      (λ t. (choice-at o t .one, cost-most _ (r .choice-costs _))) (λ f. choice-none o h f .one)
 
   held-choices-right : (o : ℕ) → o < maxTrains * maxChoices → Right (loadedBlock l) (heldChoicesFrom + o)
   held-choices-right o h =
-      used-right (loadedBlock l) (heldChoicesFrom + o) _ (choiceUsed (loadedBlock l) o) 0 maxParts (limits-held-choices (loadedBlock l) o h)
-      (λ t. (choice-at o t .other, omega arith, in-parts _ (r .choice-costs _)))
-      (λ f. no-choice r (heldChoicesFrom + o) (omega arith) (omega arith)
-      (λ i a t q. (λ e. omega (arith, r .trains .1, r .sizes i t), λ e. choice-apart o f i a t q (omega arith))))
+      cost-right (loadedBlock l) (heldChoicesFrom + o) _ _ (choiceUsed (loadedBlock l) o) maxParts (limits-held-choices (loadedBlock l) o h)
+      (λ t. (choice-at o t .other, λ q. in-parts _ (cost-most _ (r .choice-costs _) q))) (λ f. choice-none o h f .other)
 
   -- ---- the tables of pairs
 
@@ -366,24 +395,28 @@ module _ {l : Numbers} (r : InRange l) where
       omega arith
 
   entry-at : (o : ℕ) → entryUsed (loadedBlock l) o ≡ true
-      → Priced (l .scale) (loadedEntriesFrom + o) (heldEntriesFrom + o) (numbersCosts l .pair (o / entriesOfPair) (o % entriesOfPair / maxChoices) (o % maxChoices)) (loadedBlock l)
+      → Priced (l .scale) (loadedEntriesFrom + o) (heldEntriesFrom + o) (entryGiven l (o / entriesOfPair) (o % entriesOfPair / maxChoices) (o % maxChoices)) (loadedBlock l)
   entry-at o t =
       let w = entry-there o t in
       let e : entriesOfPair * (o / entriesOfPair) + (maxChoices * (o % entriesOfPair / maxChoices) + o % maxChoices) ≡ o = omega arith in
       rw e at (at-entry r (o / entriesOfPair) (o % entriesOfPair / maxChoices) (o % maxChoices) (w .0) (w .1) (w .2))
 
+  entry-none : (o : ℕ) → o < maxPairs * entriesOfPair → entryUsed (loadedBlock l) o ≡ false → Two (loadedEntriesFrom + o) (heldEntriesFrom + o) (pos 0) (pos 0) (loadedBlock l)
+  entry-none o h f =
+      record {
+        one = no-entry r (loadedEntriesFrom + o) (omega arith) (omega arith) (λ k a c t p q. (λ e. entry-apart o f k a c t p q (omega arith), λ e. omega arith));
+        other = no-entry r (heldEntriesFrom + o) (omega arith) (omega arith) (λ k a c t p q. (λ e. omega (arith, r .pairs .0, pair-lanes r k t), λ e. entry-apart o f k a c t p q (omega arith)));
+      }
+
   loaded-entries-right : (o : ℕ) → o < maxPairs * entriesOfPair → Right (loadedBlock l) (loadedEntriesFrom + o)
   loaded-entries-right o h =
-      used-right (loadedBlock l) (loadedEntriesFrom + o) _ (entryUsed (loadedBlock l) o) 0 maxCost (limits-loaded-entries (loadedBlock l) o h)
-      (λ t. (entry-at o t .one, omega arith, r .entry-costs _))
-      (λ f. no-entry r (loadedEntriesFrom + o) (omega arith) (omega arith) (λ k a c t p q. (λ e. entry-apart o f k a c t p q (omega arith), λ e. omega arith)))
+      cost-right (loadedBlock l) (loadedEntriesFrom + o) _ _ (entryUsed (loadedBlock l) o) maxCost (limits-loaded-entries (loadedBlock l) o h)
+      (λ t. (entry-at o t .one, cost-most _ (r .entry-costs _))) (λ f. entry-none o h f .one)
 
   held-entries-right : (o : ℕ) → o < maxPairs * entriesOfPair → Right (loadedBlock l) (heldEntriesFrom + o)
   held-entries-right o h =
-      used-right (loadedBlock l) (heldEntriesFrom + o) _ (entryUsed (loadedBlock l) o) 0 maxParts (limits-held-entries (loadedBlock l) o)
-      (λ t. (entry-at o t .other, omega arith, in-parts _ (r .entry-costs _)))
-      (λ f. no-entry r (heldEntriesFrom + o) (omega arith) (omega arith)
-      (λ k a c t p q. (λ e. omega (arith, r .pairs .0, pair-lanes r k t), λ e. entry-apart o f k a c t p q (omega arith))))
+      cost-right (loadedBlock l) (heldEntriesFrom + o) _ _ (entryUsed (loadedBlock l) o) maxParts (limits-held-entries (loadedBlock l) o)
+      (λ t. (entry-at o t .other, λ q. in-parts _ (cost-most _ (r .entry-costs _) q))) (λ f. entry-none o h f .other)
 
   -- ---- every place
 
@@ -412,9 +445,46 @@ module _ {l : Numbers} (r : InRange l) where
       rw (follows-at k h, load-first r k h, load-second r k h, load-trains r, lt-ltb _ _ (r .below k h .0), lt-ltb _ _ (r .below k h .1))
 
   pub load-study : Study (loadedBlock l)
-  load-study = record { whole = load-length r; places = every-place; ordered = λ k h. pair-ordered k (omega (arith, load-pairs r)) }
+  load-study =
+      record {
+        whole = load-length r;
+        places = every-place;
+        ordered = λ k h. pair-ordered k (omega (arith, load-pairs r));
+        choices-mated = λ o h. both-mated (choiceUsed (loadedBlock l) o) (choice-at o) (choice-none o h) (priced-mates _ _ _);
+        entries-mated = λ o h. both-mated (entryUsed (loadedBlock l) o) (entry-at o) (entry-none o h) (priced-mates _ _ _);
+      }
+
+  -- the shape that a block holds after the load is the shape that the numbers give
+  pub load-alike : AlikeShapes (shapeOf (loadedBlock l)) (numbersShape l)
+  load-alike =
+      record {
+        trains-same = load-trains r;
+        sizes-same = λ i h. load-size r i (omega (arith, load-trains r));
+        pairs-same = load-pairs r;
+        firsts-same = λ k h. load-first r k (omega (arith, load-pairs r));
+        seconds-same = λ k h. load-second r k (omega (arith, load-pairs r));
+        choices-open-same = λ i a h q. let t : i < length (l .sizes) = omega (arith, load-trains r) in load-choice-open r i a t (omega (arith, load-size r i t));
+        entries-open-same = λ k a c h p q.
+            let t : k < length (l .firsts) = omega (arith, load-pairs r) in load-entry-open r k a c t (omega (arith, lanes-of k t)) (omega (arith, lanes-of k t));
+      }
 
   -- ---- 'T becomes s × H'
+
+  pub load-choice-parts : (i a : ℕ) → i < trains (loadedBlock l) → a < size (loadedBlock l) i
+      → heldChoice (loadedBlock l) i a ≡ scale (loadedBlock l) * loadedChoice (loadedBlock l) i a
+  load-choice-parts i a h p =
+      let q : i < length (l .sizes) = omega (arith, load-trains r) in
+      let t : a < nth (l .sizes) i = omega (arith, load-size r i q) in
+      rw (load-held-choice r i a q t, load-loaded-choice r i a q t, load-scale r)
+
+  pub load-entry-parts : (k a c : ℕ) → k < pairs (loadedBlock l)
+      → a < size (loadedBlock l) (first (loadedBlock l) k) → c < size (loadedBlock l) (second (loadedBlock l) k)
+      → heldEntry (loadedBlock l) k a c ≡ scale (loadedBlock l) * loadedEntry (loadedBlock l) k a c
+  load-entry-parts k a c h p w =
+      let q : k < length (l .firsts) = omega (arith, load-pairs r) in
+      let t : a < rowsOf (numbersShape l) k = omega (arith, lanes-of k q) in
+      let u : c < columnsOf (numbersShape l) k = omega (arith, lanes-of k q) in
+      rw (load-held-entry r k a c q t u, load-loaded-entry r k a c q t u, load-scale r)
 
   pub load-total : (x : ℕ → ℕ) → IsPlan (shapeOf (loadedBlock l)) x → heldTotal (loadedBlock l) x ≡ scale (loadedBlock l) * loadedTotal (loadedBlock l) x
   unfolding total choiceTotal pairTotal loadedCosts heldCosts
@@ -425,28 +495,13 @@ module _ {l : Numbers} (r : InRange l) where
       omega (
         arith,
         load-constant r,
-        sum-cong (trains b) (λ i. heldChoice b i (x i)) (λ i. scale b * f i) by-choice,
+        sum-cong (trains b) (λ i. heldChoice b i (x i)) (λ i. scale b * f i) (λ i h. load-choice-parts i (x i) h (p .below i h)),
         sum-scale (trains b) (scale b) f,
-        sum-cong (pairs b) (λ k. heldEntry b k (x (first b k)) (x (second b k))) (λ k. scale b * g k) by-pair,
+        sum-cong (pairs b) (λ k. heldEntry b k (x (first b k)) (x (second b k))) (λ k. scale b * g k)
+            (λ k h. load-entry-parts k (x (first b k)) (x (second b k)) h
+            (p .below (first b k) (first-below-trains load-study k h)) (p .below (second b k) (second-below-trains load-study k h))),
         sum-scale (pairs b) (scale b) g,
         mul-add (scale b) (0 + sum (trains b) f) (sum (pairs b) g),
         mul-add (scale b) 0 (sum (trains b) f),
         mul-zero (scale b),
       )
-    where
-      by-choice : (i : ℕ) → i < trains (loadedBlock l) → heldChoice (loadedBlock l) i (x i) ≡ scale (loadedBlock l) * loadedChoice (loadedBlock l) i (x i)
-      by-choice i h =
-          let q : i < length (l .sizes) = omega (arith, load-trains r) in
-          let t : x i < nth (l .sizes) i = omega (arith, p .below i h, load-size r i q) in
-          rw (load-held-choice r i (x i) q t, load-loaded-choice r i (x i) q t, load-scale r)
-
-      by-pair : (k : ℕ) → k < pairs (loadedBlock l)
-          → heldEntry (loadedBlock l) k (x (first (loadedBlock l) k)) (x (second (loadedBlock l) k))
-          ≡ scale (loadedBlock l) * loadedEntry (loadedBlock l) k (x (first (loadedBlock l) k)) (x (second (loadedBlock l) k))
-      by-pair k h =
-          let b = loadedBlock l in
-          let q : k < length (l .firsts) = omega (arith, load-pairs r) in
-          let w = r .below k q in
-          let t : x (first b k) < rowsOf (numbersShape l) k = omega (arith, p .below (first b k) (omega (arith, load-first r k q, load-trains r)), lanes-of k q) in
-          let u : x (second b k) < columnsOf (numbersShape l) k = omega (arith, p .below (second b k) (omega (arith, load-second r k q, load-trains r)), lanes-of k q) in
-          rw (load-held-entry r k (x (first b k)) (x (second b k)) q t u, load-loaded-entry r k (x (first b k)) (x (second b k)) q t u, load-scale r)

@@ -1,14 +1,15 @@
--- Document 01, '01 load': the whole new block. 'T becomes s × H, c0 becomes 0, and every unused place becomes 0.'
+-- Document 01, '01 load': the whole new block. 'T becomes s × H, c0 becomes 0, and every unused place becomes 0.' Document 02, change 5: 'FFFFFF in a load means' forbidden, 'and H and T hold −1'.
 use mathlib.Core.Path.{_≡_}
+use mathlib.Core.Bool.{true}
 use mathlib.Core.List.{List, []}
 use Prim.Native.Nat.{ℕ, _+_, _*_, _<_, _≤_}
 use lib.IntN.{ℤ, pos}
 use lib.ListN.{length, set}
 use Rattle.theory.specs.Fold.{iter}
 use Rattle.theory.specs.Lists.{nth}
-use Rattle.tables.specs.Block.{maxTrains, maxChoices, maxPairs, maxCost, trainsPlace, scalePlace, pairsPlace, sizePlace, firstPlace, secondPlace, loadedChoicePlace, heldChoicePlace, loadedEntryPlace, heldEntryPlace}
+use Rattle.tables.specs.Block.{maxTrains, maxChoices, maxPairs, trainsPlace, scalePlace, pairsPlace, sizePlace, firstPlace, secondPlace, loadedChoicePlace, heldChoicePlace, loadedEntryPlace, heldEntryPlace}
 use Rattle.tables.specs.WellFormed.{freshBlock}
-use Rattle.tables.specs.Numbers.{Numbers, listShape, numbersShape}
+use Rattle.tables.specs.Numbers.{Numbers, listShape, numbersShape, isCost, priced}
 use Rattle.tables.specs.Plans.{Shape}
 use Rattle.tables.specs.Counts.{rowsOf, columnsOf, choicesBefore, entriesBefore}
 
@@ -22,9 +23,13 @@ sizesLoaded sizes b = iter (length sizes) (λ i d. set d (sizePlace i) (pos (nth
 abbrev pub pairsLoaded : List ℕ → List ℕ → List ℤ → List ℤ
 pairsLoaded firsts seconds b = iter (length firsts) (λ k d. set (set d (firstPlace k) (pos (nth firsts k))) (secondPlace k) (pos (nth seconds k))) b
 
--- a run of costs in points, from `start` on: H at `count` places from `loaded` on, and T = s × H at as many from `held` on
+-- a cost: H at place p, and T = s × H at place q; or −1 at both
+abbrev pub costLoaded : ℕ → ℕ → ℕ → ℕ → List ℤ → List ℤ
+costLoaded s c p q b = set (set b p (priced c c)) q (priced c (s * c))
+
+-- a run of costs in points, from `start` on: H at `count` places from `loaded` on, and T at as many from `held` on
 abbrev pub runLoaded : ℕ → List ℕ → ℕ → ℕ → ℕ → ℕ → List ℤ → List ℤ
-runLoaded s costs start loaded held count b = iter count (λ a d. set (set d (loaded + a) (pos (nth costs (start + a)))) (held + a) (pos (s * nth costs (start + a)))) b
+runLoaded s costs start loaded held count b = iter count (λ a. costLoaded s (nth costs (start + a)) (loaded + a) (held + a)) b
 
 -- each train's costs
 abbrev pub choicesLoaded : ℕ → Shape → List ℕ → List ℤ → List ℤ
@@ -64,4 +69,4 @@ pub record PairsIn (n : ℕ) (firsts seconds : List ℕ) : Type 0 where
   pub second : (k : ℕ) → k < length firsts → nth seconds k < n
 
 pub record CostsIn (costs : List ℕ) : Type 0 where
-  pub small : (o : ℕ) → nth costs o ≤ maxCost
+  pub right : (o : ℕ) → isCost (nth costs o) ≡ true

@@ -3,15 +3,16 @@ use mathlib.Core.Path.{_≡_}
 use mathlib.Core.List.{List}
 use mathlib.Core.Logic.{_≢_}
 use Prim.Native.Nat.{ℕ, _*_, _<_, _≤_}
-use lib.IntN.{ℤ}
+use lib.IntN.{ℤ, pos, negsuc}
 use lib.ListN.{length}
 use Rattle.theory.specs.Lists.{listOf, joined}
-use Rattle.tables.specs.Block.{constantPlace, loadedChoicesFrom, heldChoicesFrom, loadedEntriesFrom, heldEntriesFrom, loadedChoicePlace, loadedEntryPlace, at, nat, trains, scale, pairs, constant, size, first, second, loadedChoice, heldChoice, loadedEntry, heldEntry}
-use Rattle.tables.specs.Numbers.{Numbers, numbers}
+use Rattle.tables.specs.Block.{constantPlace, loadedChoicesFrom, heldChoicesFrom, loadedEntriesFrom, heldEntriesFrom, loadedChoicePlace, loadedEntryPlace, at, trains, scale, pairs, constant, size, first, second, loadedChoice, heldChoice, loadedEntry, heldEntry}
+use Rattle.tables.specs.Numbers.{Numbers, numbers, forbiddenCost}
 
--- the number in a load line that loads what stands in a place of H
+-- the number in a load line that loads what stands in a place of H: FFFFFF for −1
 unfoldable pub savedCost : ℤ → ℕ
-savedCost z = nat z
+savedCost (pos n) = n
+savedCost (negsuc n) = forbiddenCost
 
 -- the costs of train i, by choice
 abbrev pub trainCosts : List ℤ → ℕ → List ℕ

@@ -17,6 +17,9 @@ pub fn add(block: &mut [i64], i: usize, a: usize, points: Points) -> Verdict
     ensures { λ r. ⌜ r ≡ addOutcome i a (points .0) (now (block .entry)) ⌝ }
     ensures { λ r. ⌜ now (block .exit) ≡ addBlock i a (points .0) (now (block .entry)) ⌝ }
 {
+    if !block::choice_open(block, i, a) {
+        return Verdict::Fine;
+    }
     let loaded = block::loaded_choice(block, i, a).plus(points);
     if !loaded.at_most(Block::COST) {
         return Verdict::Declined(Refusal::CostAbove);

@@ -1,5 +1,6 @@
 // Document 01, '01 load'.
 ghost use mathlib.Core.Path.{_≡_};
+ghost use mathlib.Core.Bool.{true};
 ghost use Prim.Native.Nat.{_+_, _*_, _<_, _≤_};
 ghost use lib.IntN.{pos};
 ghost use lib.ListN.{length, replicate};
@@ -7,8 +8,8 @@ ghost use Rattle.units.specs.Units.{Sound};
 ghost use Rattle.tables.specs.Block.{blockLength, maxTrains, maxChoices, maxPairs};
 ghost use Rattle.tables.specs.WellFormed.{freshBlock};
 ghost use Rattle.tables.specs.Counts.{choiceCount, entryCount};
-ghost use Rattle.tables.specs.Numbers.{numbers, listShape, InRange};
-ghost use Rattle.operations.specs.Load.{SizesIn, PairsIn, CostsIn, headLoaded, sizesLoaded, pairsLoaded, runLoaded, choicesLoaded, pairLoaded, entriesLoaded, loadedBlock, trainsShape};
+ghost use Rattle.tables.specs.Numbers.{numbers, listShape, isCost, InRange};
+ghost use Rattle.operations.specs.Load.{SizesIn, PairsIn, CostsIn, headLoaded, sizesLoaded, pairsLoaded, costLoaded, runLoaded, choicesLoaded, pairLoaded, entriesLoaded, loadedBlock, trainsShape};
 use crate::held;
 use tables::block;
 use tables::block::Block;
@@ -63,6 +64,22 @@ fn load_pairs(b: &mut [i64], firsts: &[u64], seconds: &[u64])
     }
 }
 
+// Stores a cost: H at place p, and T at place q. That of a forbidden entry is −1 at both.
+fn load_cost(b: &mut [i64], scale: Scale, cost: u64, p: usize, q: usize)
+    requires { ⌜ (Sound scale) × (isCost cost ≡ true) × (p < length (now b)) × (q < length (now b)) ⌝ }
+    ensures { λ _. ⌜ now (b .exit) ≡ costLoaded (scale .0) cost p q (now (b .entry)) ⌝ }
+{
+    if cost == Block::FORBIDDEN {
+        places::close(b, p);
+        places::close(b, q);
+        return;
+    }
+    let points = Points::of(cost);
+    let parts = held::in_parts(scale, points);
+    places::put_points(b, p, points);
+    places::put_parts(b, q, parts);
+}
+
 // Stores a run of costs, from `start` on: H from place `loaded` on, and T from place `held` on.
 fn load_run(
     b: &mut [i64],
@@ -79,11 +96,7 @@ fn load_run(
 {
     let mut a = 0;
     while a < count {
-        let cost = costs[start + a];
-        let points = Points::of(cost);
-        let parts = held::in_parts(scale, points);
-        places::put_points(b, loaded + a, points);
-        places::put_parts(b, held + a, parts);
+        load_cost(b, scale, costs[start + a], loaded + a, held + a);
         a += 1;
     }
 }

@@ -1,4 +1,5 @@
--- Document 01's own examples, computed: each row of 'What is declined' that the reader judges, 11 with the limits of document 02, change 3; the lines that only a later rule declines, and marked cases 11 and 12.
+-- Document 01's own examples, computed: each row of 'What is declined' that the reader judges, 11 with the limits of document 02, change 3; the lines that only a later rule declines, marked cases 11 and 12; and document 02, change 5: FFFFFF in a load, FFFFFE,
+-- FFFFFF in an add.
 use mathlib.Core.Bool.{Bool, true, false, cond, _&&_}
 use mathlib.Core.List.{List, [], _∷_, _++_}
 use Prim.Native.Nat.{ℕ}
@@ -11,7 +12,8 @@ use Rattle.theory.specs.Range.{all, pass}
 use Rattle.refusals.specs.Refusals.{refusalNumber}
 use Rattle.refusals.specs.Verdicts.{firstOf}
 use Rattle.tables.specs.Block.{trainsPlace, scalePlace, pairsPlace, sizePlace, firstPlace, secondPlace, loadedChoicePlace, heldChoicePlace, loadedEntryPlace, heldEntryPlace, figure}
-use Rattle.tables.specs.WellFormed.{within, choiceUsed, entryUsed, headLimits, shapeLimits, costLimits, limitsAt, placesRight, before, follows, pairRight, pairsRight, isZero, holdsStudy, wellFormed, freshBlock, isFresh}
+use Rattle.tables.specs.Numbers.{isCost}
+use Rattle.tables.specs.WellFormed.{within, choiceUsed, entryUsed, headLimits, shapeLimits, costLimits, limitsAt, placesRight, before, follows, pairRight, pairsRight, isZero, isOpen, mate, mates, mated, holdsStudy, wellFormed, freshBlock, isFresh}
 use Rattle.frames.specs.Digits.{digit, byteAt}
 use Rattle.frames.specs.Fields.{field, signed}
 use Rattle.frames.specs.Frames.{allDigits, framed}
@@ -47,7 +49,7 @@ j =
     (putChoice 0 0 2 (putEntry 0 0 0 1 (putEntry 0 1 0 3 (putEntry 0 1 1 2 freshBlock))))))))))
 
 pub blocks-well-formed : T (wellFormed freshBlock && wellFormed j)
-unfolding j put putChoice putEntry within choiceUsed entryUsed headLimits shapeLimits costLimits limitsAt placesRight before follows pairRight pairsRight isZero isFresh holdsStudy wellFormed figure pass all
+unfolding j put putChoice putEntry within choiceUsed entryUsed headLimits shapeLimits costLimits limitsAt placesRight before follows pairRight pairsRight isZero isFresh isOpen mate mates mated holdsStudy wellFormed figure pass all
 blocks-well-formed = tt
 
 -- ---- the table
@@ -72,7 +74,7 @@ numberOf (Asked q) = 0
 numberOf (Refused r) = refusalNumber r
 
 pub holds : Case → Bool
-unfolding j put putChoice putEntry numberOf digit byteAt field signed allDigits framed pairAt firstOf fieldVerdict lastVerdict runsVerdict pairOrdered pairVerdict headVerdict restVerdict loadVerdict addVerdict shiftVerdict certifyVerdict searchVerdict newKind studyLine kindLine lineOf isFresh isZero pass before figure sum
+unfolding j put putChoice putEntry isCost numberOf digit byteAt field signed allDigits framed pairAt firstOf fieldVerdict lastVerdict runsVerdict pairOrdered pairVerdict headVerdict restVerdict loadVerdict addVerdict shiftVerdict certifyVerdict searchVerdict newKind studyLine kindLine lineOf isFresh isZero pass before figure sum
 holds c = eqb (numberOf (lineOf (c .line) (cond (c .loaded) j freshBlock))) (c .number)
 
 pub every : List Case → Bool
@@ -125,6 +127,11 @@ cases =
     ∷ row "01010001010F424000" false 0
     ∷ long "0101000108" 50 false 0
     ∷ row "0101000109" false 6
+    ∷ row "0101000101FFFFFF00" false 0
+    ∷ row "0101000101FFFFFE" false 7
+    ∷ row "010200010101000000000000010001FFFFFF" false 0
+    ∷ row "010200010101000000000000010001FFFFFE" false 7
+    ∷ row "020000FFFFFF" true 7
     ∷ []
 
 pub cases-hold : T (every cases)

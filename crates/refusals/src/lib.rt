@@ -1,4 +1,4 @@
-// Document 01, 'What is declined': the reasons, with their numbers, and verdicts on a line, a field or an operation.
+// Document 01, 'What is declined', and document 02, change 5: the reasons, with their numbers, and verdicts on a line, a field or an operation.
 ghost use mathlib.Core.Path.{_≡_};
 ghost use Rattle.refusals.specs.Refusals.{refusalNumber};
 ghost use Rattle.refusals.specs.Verdicts.{isFine};
@@ -15,7 +15,7 @@ pub enum Refusal {
     Fields,
     // n, s, a size or m outside its range.
     Range,
-    // A cost or added points above the highest cost.
+    // A cost above the highest that is not the mark of a forbidden entry, or added points above the highest cost.
     Cost,
     // i not below j, j not below n, or a pair not after the last.
     Pair,
@@ -35,6 +35,8 @@ pub enum Refusal {
     Budget,
     // A block of another length, or not well formed.
     Malformed,
+    // A weight above 0 on a forbidden entry.
+    ForbiddenWeight,
 }
 
 // Document 01's number of a refusal.
@@ -58,6 +60,7 @@ pub fn number(r: Refusal) -> u8
         Refusal::Sums => 14,
         Refusal::Budget => 15,
         Refusal::Malformed => 16,
+        Refusal::ForbiddenWeight => 18,
     }
 }
 

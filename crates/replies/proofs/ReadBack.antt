@@ -1,13 +1,13 @@
 -- What a reply's characters say, read back: each figure is the one that was written.
 use mathlib.Core.Path.{_≡_, refl, ap, _∙_}
-use mathlib.Core.Bool.{Bool, true, false}
+use mathlib.Core.Bool.{Bool, true, false, cond, not, _&&_}
 use mathlib.Core.List.{List, []}
 use Prim.Native.Nat.{ℕ, _<_, _^_}
 use native.Mathlib.Omega.{arith}
 use lib.Dec.{eqb}
 use lib.IntN.{ℤ}
 use Rattle.refusals.specs.declared.Refusal.{Refusal}
-use Rattle.refusals.specs.declared.Refusal.the-variants.{Characters, TooLong, NoKind, FreshBlock, Fields, Range, Cost, Pair, Absent, CostAbove, Move, PartsOutside, FullWeight, Sums, Budget, Malformed}
+use Rattle.refusals.specs.declared.Refusal.the-variants.{Characters, TooLong, NoKind, FreshBlock, Fields, Range, Cost, Pair, Absent, CostAbove, Move, PartsOutside, FullWeight, Sums, Budget, Malformed, ForbiddenWeight}
 use Rattle.refusals.specs.Refusals.{refusalNumber}
 use Rattle.tables.specs.Block.{constant}
 use Rattle.certificates.specs.declared.certify.Ceiling.{Ceiling}
@@ -15,17 +15,29 @@ use Rattle.lines.specs.declared.kind.Kind.{Kind}
 use Rattle.lines.specs.declared.kind.Kind.the-variants.{Certify, Search}
 use Rattle.lines.proofs.KindNumbers.{number-low}
 use Rattle.search.specs.declared.answer.Found.{Found}
-use Rattle.replies.specs.Replies.{figureWidth, choiceWidth, refusalWidths, refusalByte, refusalReply, replyKind, boundWidths, boundOf, boundReply, certifyWidths, flag, certifyReply, searchWidths, shownCost, shownChoice, searchReply, refusalNumbers, boundNumbers, certifyNumbers, searchNumbers, planDigits}
-use Rattle.replies.specs.Shown.{kindShown, numberShown, constantShown, boundShown, flagShown, weightedShown, fullWeightShown, saysEnded, costShown, planShown}
+use Rattle.replies.specs.Replies.{figureWidth, choiceWidth, refusalWidths, refusalByte, refusalReply, replyKind, boundWidths, boundOf, boundReply, certifyWidths, flag, certifyReply, searchWidths, ending, shownCost, shownChoice, searchReply, refusalNumbers, boundNumbers, certifyNumbers, searchNumbers, planDigits}
+use Rattle.replies.specs.Shown.{kindShown, numberShown, constantShown, boundShown, flagShown, weightedShown, fullWeightShown, endingShown, saysEnded, saysEndedWithout, costShown, planShown}
 use Rattle.replies.proofs.ReplyFields.{fields-shown, run-shown}
 
 flag-low : (t : Bool) → flag t < 256
 flag-low true = omega arith
 flag-low false = omega arith
 
-flag-back : (t : Bool) → eqb (flag t) 1 ≡ t
-flag-back true = refl
-flag-back false = refl
+-- the three endings of a search, by whether it ended and whether it found a plan
+ending-low : (ended found : Bool) → cond ended (cond found 1 2) 0 < 256
+ending-low true true = omega arith
+ending-low true false = omega arith
+ending-low false found = omega arith
+
+ending-with : (ended found : Bool) → eqb (cond ended (cond found 1 2) 0) 1 ≡ ended && found
+ending-with true true = refl
+ending-with true false = refl
+ending-with false found = refl
+
+ending-without : (ended found : Bool) → eqb (cond ended (cond found 1 2) 0) 2 ≡ ended && not found
+ending-without true true = refl
+ending-without true false = refl
+ending-without false found = refl
 
 -- ---- refusals
 
@@ -46,6 +58,7 @@ refusal-low FullWeight = omega arith
 refusal-low Sums = omega arith
 refusal-low Budget = omega arith
 refusal-low Malformed = omega arith
+refusal-low ForbiddenWeight = omega arith
 
 module _ (r : Refusal) where
   pub refusal-kind : kindShown (refusalReply r) ≡ refusalByte
@@ -97,9 +110,17 @@ module _ (n : ℕ) (f : Found) where
   unfolding searchReply
   search-kind = fields-shown searchWidths (searchNumbers f) (planDigits n f) refl 0 (omega arith) (omega arith)
 
-  pub search-ended : saysEnded (searchReply n f) ≡ f .ended
+  ending-shown : endingShown (searchReply n f) ≡ ending f
   unfolding searchReply
-  search-ended = ap (λ (v : ℕ). eqb v 1) (fields-shown searchWidths (searchNumbers f) (planDigits n f) refl 1 (omega arith) (flag-low (f .ended))) ∙ flag-back (f .ended)
+  ending-shown = fields-shown searchWidths (searchNumbers f) (planDigits n f) refl 1 (omega arith) (ending-low (f .ended) (f .found))
+
+  -- 01: it ended, with a plan
+  pub search-ended : saysEnded (searchReply n f) ≡ f .ended && f .found
+  search-ended = ap (λ (v : ℕ). eqb v 1) ending-shown ∙ ending-with (f .ended) (f .found)
+
+  -- 02: it ended, without one
+  pub search-without : saysEndedWithout (searchReply n f) ≡ f .ended && not (f .found)
+  search-without = ap (λ (v : ℕ). eqb v 2) ending-shown ∙ ending-without (f .ended) (f .found)
 
   pub search-cost : shownCost f < 256 ^ figureWidth → costShown (searchReply n f) ≡ shownCost f
   unfolding searchReply

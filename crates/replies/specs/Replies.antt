@@ -95,6 +95,10 @@ certifyReply fullWeight c = fieldsDigits certifyWidths (certifyNumbers fullWeigh
 abbrev pub searchWidths : List ℕ
 searchWidths = 1 ∷ 1 ∷ 4 ∷ figureWidth ∷ []
 
+-- '01 ended or 00 spent', and document 02, change 5: 'A search that ends without a plan says 02'
+abbrev pub ending : Found → ℕ
+ending f = cond (f .ended) (cond (f .found) 1 2) 0
+
 -- 'With no plan yet .., cost and plan are all FF'
 abbrev pub shownCost : Found → ℕ
 shownCost f = cond (f .found) (f .cost .0) (256 ^ figureWidth - 1)
@@ -103,7 +107,7 @@ abbrev pub shownChoice : Found → ℕ → ℕ
 shownChoice f i = cond (f .found) (getD (f .plan) i 0) (256 ^ choiceWidth - 1)
 
 abbrev pub searchNumbers : Found → List ℕ
-searchNumbers f = replyKind Search ∷ flag (f .ended) ∷ f .count ∷ shownCost f ∷ []
+searchNumbers f = replyKind Search ∷ ending f ∷ f .count ∷ shownCost f ∷ []
 
 -- the choices of n trains
 abbrev pub planDigits : ℕ → Found → List ℕ

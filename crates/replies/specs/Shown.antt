@@ -42,8 +42,15 @@ abbrev pub fullWeightShown : List ℕ → ℕ
 fullWeightShown reply = shownIn certifyWidths 3 reply
 
 -- '86, 01 ended or 00 spent, count (4), cost (6), one byte a train'
+abbrev pub endingShown : List ℕ → ℕ
+endingShown reply = shownIn searchWidths 1 reply
+
 abbrev pub saysEnded : List ℕ → Bool
-saysEnded reply = eqb (shownIn searchWidths 1 reply) 1
+saysEnded reply = eqb (endingShown reply) 1
+
+-- document 02, change 5: 'A search that ends without a plan says 02'
+abbrev pub saysEndedWithout : List ℕ → Bool
+saysEndedWithout reply = eqb (endingShown reply) 2
 
 abbrev pub costShown : List ℕ → ℕ
 costShown reply = shownIn searchWidths 3 reply

@@ -5,7 +5,7 @@ ghost use Prim.Native.Nat.{_+_, _*_, _<_, _≤_};
 ghost use lib.ListN.{length, take};
 ghost use Rattle.tables.specs.Block.{maxTrains};
 ghost use Rattle.tables.specs.WellFormed.{Study};
-ghost use Rattle.replies.specs.Replies.{choiceWidth, longestFixed, refusalReply, replyKind, boundReply, flag, certifyReply, shownCost, shownChoice, planDigits, searchReply};
+ghost use Rattle.replies.specs.Replies.{choiceWidth, longestFixed, refusalReply, replyKind, boundReply, flag, certifyReply, ending, shownCost, shownChoice, planDigits, searchReply};
 ghost use Rattle.replies.specs.Wrote.{Wrote};
 use crate::write;
 use certificates::certify::Ceiling;
@@ -108,17 +108,22 @@ fn write_plan(reply: &mut [u8], from: usize, n: usize, f: Found) -> usize
     at
 }
 
+// How a search ended: spent, with a plan, or without one.
+fn ending(f: Found) -> u64
+    ensures { λ r. ⌜ r ≡ ending f ⌝ }
+{
+    if !f.ended {
+        return 0;
+    }
+    if f.found { 1 } else { 2 }
+}
+
 // Writes what a search of n trains found.
 pub fn write_search(reply: &mut [u8], n: usize, f: Found) -> usize
     requires { ⌜ (longestFixed ≤ length (now reply)) × (n ≤ maxTrains) ⌝ }
     ensures { λ r. ⌜ Wrote (now (reply .entry)) (searchReply n f) (now (reply .exit)) r ⌝ }
 {
-    let numbers = [
-        reply_kind(Kind::Search),
-        flag(f.ended),
-        f.count,
-        shown_cost(f),
-    ];
+    let numbers = [reply_kind(Kind::Search), ending(f), f.count, shown_cost(f)];
     let end = write::put_fields(reply, &SEARCH_WIDTHS, &numbers);
     write_plan(reply, end, n, f)
 }

@@ -7,7 +7,7 @@ use native.Mathlib.Omega.{arith}
 use lib.IntN.{ℤ}
 use lib.ListN.{length}
 use Rattle.theory.proofs.Range.{not-both}
-use Rattle.refusals.specs.declared.Refusal.the-variants.{Sums}
+use Rattle.refusals.specs.declared.Refusal.the-variants.{Sums, ForbiddenWeight}
 use Rattle.refusals.specs.declared.Verdict.{Verdict}
 use Rattle.refusals.specs.declared.Verdict.the-variants.{Fine, Declined}
 use Rattle.tables.specs.Block.{trains}
@@ -19,7 +19,7 @@ use Rattle.shift.specs.Shift.{shiftOutcome}
 use Rattle.tighten.specs.Tighten.{tightenOutcome}
 use Rattle.directional.specs.Directional.{directOutcome}
 use Rattle.certificates.specs.declared.certify.Certificate.{Certificate}
-use Rattle.certificates.specs.declared.certify.Certificate.the-variants.{Unbalanced, Balanced}
+use Rattle.certificates.specs.declared.certify.Certificate.the-variants.{Unbalanced, Forbidden, Balanced}
 use Rattle.certificates.specs.Certify.{weightsOf, certificate}
 use Rattle.frames.specs.Frames.{maxCharacters}
 use Rattle.frames.specs.Runs.{runOf, signedRunOf}
@@ -48,6 +48,7 @@ operated-short kind (Declined r) old new = omega (arith, refusal-length r)
 
 certified-short : (fullWeight : ℕ) (c : Certificate) (b : List ℤ) → UpTo longestFixed (certified fullWeight c b .reply)
 certified-short fullWeight Unbalanced b = omega (arith, refusal-length Sums)
+certified-short fullWeight Forbidden b = omega (arith, refusal-length ForbiddenWeight)
 certified-short fullWeight (Balanced c) b = omega (arith, certify-length fullWeight c)
 
 -- a fixed reply

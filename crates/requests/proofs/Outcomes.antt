@@ -13,11 +13,12 @@ use Rattle.tables.specs.Block.{trains}
 use Rattle.tables.specs.Numbers.{Numbers}
 use Rattle.operations.specs.Add.{added, addOutcome}
 use Rattle.operations.specs.Load.{loadedBlock}
+use Rattle.rewriting.specs.Judged.{kept}
 use Rattle.shift.specs.Shift.{shifted, shiftOutcome, shiftBlock}
 use Rattle.tighten.specs.Tighten.{tightened, tightenOutcome}
 use Rattle.directional.specs.Directional.{directed, directOutcome}
 use Rattle.certificates.specs.declared.certify.Certificate.{Certificate}
-use Rattle.certificates.specs.declared.certify.Certificate.the-variants.{Unbalanced, Balanced}
+use Rattle.certificates.specs.declared.certify.Certificate.the-variants.{Unbalanced, Forbidden, Balanced}
 use Rattle.certificates.specs.Certify.{weightsOf, certificate}
 use Rattle.frames.specs.Runs.{runOf, signedRunOf}
 use Rattle.lines.specs.declared.kind.Kind.{Kind}
@@ -36,14 +37,19 @@ use Rattle.replies.specs.Wrote.{Wrote}
 use Rattle.requests.specs.Answer.{answered, operated, certified, saved, requested, fitted}
 use Rattle.requests.specs.Wrote.{Answers}
 
--- the block that an operation leaves, with the reply by its outcome and that block
+-- the block that an operation leaves
+pub operated-leaves : (kind : Kind) (o : Verdict) (old new : List ℤ) → operated kind o old new .block ≡ settled o old new
+operated-leaves kind Fine old new = refl
+operated-leaves kind (Declined r) old new = refl
+
+-- with the reply by its verdict and that block
 pub operated-answers : (kind : Kind) (o : Verdict) (old new : List ℤ) {p : Verdict} {left : List ℤ} {buffer after : List ℕ} {n : ℕ} → p ≡ o → left ≡ settled o old new
     → Wrote buffer (operated kind p left left .reply) after n → Answers (operated kind o old new) buffer left after n
-operated-answers kind o old new {p} {left} {buffer} {after} {n} e f w = go o f (rw e at w)
+operated-answers kind o old new {p} {left} {buffer} {after} {n} e f w = record { block = f ∙ sym (operated-leaves kind o old new); reply = go o f (rw e at w) }
   where
-    go : (o : Verdict) → left ≡ settled o old new → Wrote buffer (operated kind o left left .reply) after n → Answers (operated kind o old new) buffer left after n
-    go Fine f w = record { block = f; reply = rw f at w }
-    go (Declined r) f w = record { block = f; reply = w }
+    go : (o : Verdict) → left ≡ settled o old new → Wrote buffer (operated kind o left left .reply) after n → Wrote buffer (operated kind o old new .reply) after n
+    go Fine f w = rw f at w
+    go (Declined r) f w = w
 
 -- a certificate, by the weights that were read
 pub certify-answer : (l : List ℕ) (b : List ℤ) (q : Certify) {n : ℕ} {ws : List ℕ} {c : Certificate} → n ≡ q .weights .count → ws ≡ runOf l (q .weights .at) weightWidth n
@@ -59,7 +65,7 @@ unfolding requested
 shift-answers l b q en em els ems eo eb w =
     let lifts = signedRunOf l (q .lifts .at) moveWidth (q .lifts .count) in
     let moves = signedRunOf l (q .moves .at) moveWidth (q .moves .count) in
-    operated-answers kind.Shift (shiftOutcome lifts moves b) b (shifted lifts moves b) (rw (els, ems, en, em) at eo) (rw (els, ems, en, em) at eb) w
+    operated-answers kind.Shift (shiftOutcome lifts moves b) b (kept b (shifted lifts moves b)) (rw (els, ems, en, em) at eo) (rw (els, ems, en, em) at eb) w
 
 -- a load, by the numbers that were read
 pub load-answers : (l : List ℕ) (b : List ℤ) (q : Load) {x : Numbers} {left : List ℤ} {buffer after : List ℕ} {n : ℕ} → x ≡ numbersOf l → left ≡ loadedBlock x
@@ -76,18 +82,19 @@ unfolding requested
 add-answers l b q a = a
 
 pub tighten-answers : (l : List ℕ) (b : List ℤ) {left : List ℤ} {buffer after : List ℕ} {n : ℕ}
-    → Answers (operated kind.Tighten (tightenOutcome b) b (tightened b)) buffer left after n → Answers (requested tighten-of l b) buffer left after n
+    → Answers (operated kind.Tighten (tightenOutcome b) b (kept b (tightened b))) buffer left after n → Answers (requested tighten-of l b) buffer left after n
 unfolding requested
 tighten-answers l b a = a
 
 pub round-answers : (l : List ℕ) (b : List ℤ) {left : List ℤ} {buffer after : List ℕ} {n : ℕ}
-    → Answers (operated kind.Round (directOutcome b) b (directed b)) buffer left after n → Answers (requested round-of l b) buffer left after n
+    → Answers (operated kind.Round (directOutcome b) b (kept b (directed b))) buffer left after n → Answers (requested round-of l b) buffer left after n
 unfolding requested
 round-answers l b a = a
 
 -- a certificate leaves the block, declined or not
 certified-leaves : (fullWeight : ℕ) (c : Certificate) (b : List ℤ) → certified fullWeight c b .block ≡ b
 certified-leaves fullWeight Unbalanced b = refl
+certified-leaves fullWeight Forbidden b = refl
 certified-leaves fullWeight (Balanced c) b = refl
 
 pub certify-answers : (l : List ℕ) (b : List ℤ) (q : Certify) {buffer after : List ℕ} {n : ℕ} → Wrote buffer (requested (certify-of q) l b .reply) after n

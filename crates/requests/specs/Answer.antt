@@ -6,18 +6,19 @@ use lib.Dec.{ltb}
 use lib.IntN.{ℤ}
 use lib.ListN.{length}
 use Rattle.refusals.specs.declared.Refusal.{Refusal}
-use Rattle.refusals.specs.declared.Refusal.the-variants.{Sums}
+use Rattle.refusals.specs.declared.Refusal.the-variants.{Sums, ForbiddenWeight}
 use Rattle.refusals.specs.declared.Verdict.{Verdict}
 use Rattle.refusals.specs.declared.Verdict.the-variants.{Fine, Declined}
 use Rattle.tables.specs.Block.{trains}
 use Rattle.operations.specs.Add.{added, addOutcome}
 use Rattle.operations.specs.Load.{loadedBlock}
 use Rattle.operations.specs.Saved.{savedNumbers}
+use Rattle.rewriting.specs.Judged.{kept}
 use Rattle.shift.specs.Shift.{shifted, shiftOutcome}
 use Rattle.tighten.specs.Tighten.{tightened, tightenOutcome}
 use Rattle.directional.specs.Directional.{directed, directOutcome}
 use Rattle.certificates.specs.declared.certify.Certificate.{Certificate}
-use Rattle.certificates.specs.declared.certify.Certificate.the-variants.{Unbalanced, Balanced}
+use Rattle.certificates.specs.declared.certify.Certificate.the-variants.{Unbalanced, Forbidden, Balanced}
 use Rattle.certificates.specs.Certify.{weightsOf, certificate}
 use Rattle.frames.specs.Runs.{runOf, signedRunOf}
 use Rattle.lines.specs.declared.kind.Kind.{Kind}
@@ -51,28 +52,29 @@ abbrev pub operated : Kind → Verdict → List ℤ → List ℤ → Answer
 operated kind Fine old new = answered new (boundReply kind new)
 operated kind (Declined r) old new = declined old r
 
--- 'Certify and search change nothing in the block'; 14 where the sums disagree
+-- 'Certify and search change nothing in the block'; 14 where the sums disagree; then 18, 'a weight above 0 on a forbidden entry, after 14'
 abbrev pub certified : ℕ → Certificate → List ℤ → Answer
 certified fullWeight Unbalanced b = declined b Sums
+certified fullWeight Forbidden b = declined b ForbiddenWeight
 certified fullWeight (Balanced c) b = answered b (certifyReply fullWeight c)
 
 -- 'Kind 07, with no fields, answers with a load line for H'; it changes nothing in the block
 abbrev pub saved : List ℤ → Answer
 saved b = answered b (loadDigits (savedNumbers b))
 
--- what each request does, with the long fields read from the line
+-- what each request does, with the long fields read from the line. 'Forbidden entries stay so': where moves end, what is forbidden is `kept`
 unfoldable pub requested : Request → List ℕ → List ℤ → Answer
 requested (Load q) l b = answered (loadedBlock (numbersOf l)) (boundReply kind.Load (loadedBlock (numbersOf l)))
 requested (Add q) l b = operated kind.Add (addOutcome (q .train) (q .choice) (q .points .0) b) b (added (q .train) (q .choice) (q .points .0) b)
 requested (Shift q) l b =
     let lifts = signedRunOf l (q .lifts .at) moveWidth (q .lifts .count) in
     let moves = signedRunOf l (q .moves .at) moveWidth (q .moves .count) in
-    operated kind.Shift (shiftOutcome lifts moves b) b (shifted lifts moves b)
-requested Tighten l b = operated kind.Tighten (tightenOutcome b) b (tightened b)
+    operated kind.Shift (shiftOutcome lifts moves b) b (kept b (shifted lifts moves b))
+requested Tighten l b = operated kind.Tighten (tightenOutcome b) b (kept b (tightened b))
 requested (Certify q) l b = certified (q .full) (certificate b (weightsOf b (q .full) (runOf l (q .weights .at) weightWidth (q .weights .count)))) b
 requested (Search q) l b = answered b (searchReply (trains b) (searchAnswer b (q .budget)))
 requested Save l b = saved b
-requested Round l b = operated kind.Round (directOutcome b) b (directed b)
+requested Round l b = operated kind.Round (directOutcome b) b (kept b (directed b))
 
 -- what a line asks, done, or the refusal
 abbrev pub carriedOut : Line → List ℕ → List ℤ → Answer

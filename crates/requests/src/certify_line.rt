@@ -31,6 +31,7 @@ fn certify_with(
     runs::decode(line, q.weights.at, Certify::WEIGHT_WIDTH, weights);
     match certify::certify(block, q.full, weights) {
         Certificate::Unbalanced => write_refusal(reply, Refusal::Sums),
+        Certificate::Forbidden => write_refusal(reply, Refusal::ForbiddenWeight),
         Certificate::Balanced(c) => write_certify(reply, q.full, c),
     }
 }

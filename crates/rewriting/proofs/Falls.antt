@@ -1,125 +1,148 @@
--- What moves a least leaves no number below 0: what goes is the least of the run it comes from. One move, chains of them, and folds over lanes and over trains.
-use mathlib.Core.Path.{_≡_, refl, ap, _∙_}
+-- What moves a least leaves no open number below 0: what goes is the least of the open numbers of the run it comes from. What comes to stand at a forbidden place is any whole number,
+-- not far from 0. One move, chains of them, and folds over lanes and over trains.
+use mathlib.Core.Path.{_≡_, refl, sym, ap, _∙_}
+use mathlib.Core.Bool.{true, false}
 use mathlib.Core.List.{List}
 use mathlib.Core.Logic.{⊎-elim, _≢_}
 use Prim.Native.Nat.{ℕ, zero, suc, _+_, _*_, _-_, _<_, _≤_}
 use native.Mathlib.Decide.{ℕ-discrete}
 use native.Mathlib.Nat.{add-zero, sub-zero, suc-mul, mul-le-mul-right}
 use native.Mathlib.Omega.{arith}
-use lib.IntN.{ℤ, pos, negsuc, negℤ, _+ℤ_}
+use lib.IntN.{ℤ, pos, negℤ, _+ℤ_}
 use lib.ListN.{length}
-use lib.Signed.{mag}
 use borrow.Author.Tests.{le-ltb}
 use Rattle.theory.specs.Fold.{iter}
-use Rattle.theory.proofs.Fold.{least-le, least-is}
-use Rattle.tables.specs.Block.{blockLength, heldChoicesFrom, heldEntriesFrom, heldChoicePlace, constantPlace, at, nat, figure, trains, pairs, size, heldChoice}
+use Rattle.tables.specs.Block.{blockLength, maxTrains, maxChoices, heldChoicesFrom, heldEntriesFrom, heldChoicePlace, loadedChoicePlace, constantPlace, at, nat, figure, trains, pairs, size, heldChoice}
+use Rattle.tables.specs.Plans.{shapeOf}
 use Rattle.tables.proofs.Study.{same-figure, same-size, figure-at}
 use Rattle.rewriting.specs.declared.sides.PlaceRun.{PlaceRun}
 use Rattle.rewriting.specs.declared.sides.Side.{Side}
 use Rattle.rewriting.specs.declared.sides.Side.the-variants.{Rows, Columns}
-use Rattle.rewriting.specs.Moves.{Room, ShapeInRange, runPlace, moveRun, laneTrain, laneRun, choicesRun, NonNegative, NonEmpty}
-use Rattle.rewriting.specs.Leasts.{runLeast, runTightened, laneTightened, trainTightened}
-use Rattle.rewriting.proofs.Runs.{Met, Missed, meet, move-to, move-met, move-other}
-use Rattle.rewriting.proofs.Shape.{unary, same-lane, lane-train, lanes-most, nat-room, BetweenCosts, project-between-costs, between-costs-run, Moved, none, move, moved-shape, lanes-moved, trains-moved}
+use Rattle.rewriting.specs.Moves.{Room, ShapeInRange, runPlace, moveRun, laneTrain, laneRun, choicesRun}
+use Rattle.rewriting.specs.Leasts.{openPlace, NonNegative, runLeast, runTightened, laneTightened, trainTightened}
+use Rattle.rewriting.proofs.Runs.{room-more, Met, Missed, meet, move-to, move-met, move-other, move-room}
+use Rattle.rewriting.proofs.Shape.{room-figure, unary, same-lane, lane-train, lanes-most, SameLoaded, BetweenCosts, project-between-costs, between-costs-run, move-loaded, Moved, none, move, moved-shape, lanes-moved, trains-moved}
+use Rattle.rewriting.proofs.Opens.{open-constant, open-choice, open-same}
+use Rattle.rewriting.proofs.LeastOpen.{least-open-le, least-open-is, least-open-most, least-open-none}
 
 pub less : (a l : ℕ) → l ≤ a → pos a +ℤ negℤ (pos l) ≡ pos (a - l)
 less a zero h = rw (add-zero, sub-zero)
 less a (suc l) h = rw (le-ltb a (suc l) h)
 
--- the least of a run is at most each of its numbers
-pub run-least-le : (r : PlaceRun) (p : ℕ) (c : List ℤ) → Met r p → runLeast r c ≤ figure c p
-unfolding runLeast
-run-least-le r p c m = omega (arith, least-le (r .count - 1) (m .turn) (λ i. figure c (runPlace r i)) (omega (arith, m .below)), ap (figure c) (m .is))
+-- ---- the least of a run
 
-pub record Attained (r : PlaceRun) (c : List ℤ) : Type 0 where
-  pub turn : ℕ
-  pub below : turn < r .count
-  pub is : runLeast r c ≡ figure c (runPlace r turn)
+module _ (r : PlaceRun) (c : List ℤ) where
+  -- it is at most each of its open numbers
+  pub run-least-le : (p : ℕ) → Met r p → openPlace c p ≡ true → runLeast r c ≤ figure c p
+  unfolding runLeast
+  run-least-le p m e =
+      omega (
+        arith,
+        least-open-le (r .count) (m .turn) (λ i. openPlace c (runPlace r i)) (λ i. figure c (runPlace r i)) (m .below) (ap (openPlace c) (sym (m .is)) ∙ e),
+        ap (figure c) (m .is),
+      )
 
-pub run-least-first : (r : PlaceRun) (c : List ℤ) → runLeast r c ≤ figure c (runPlace r 0)
-unfolding runLeast
-run-least-first r c = least-le (r .count - 1) 0 (λ i. figure c (runPlace r i)) (omega arith)
+  -- and one of them, if there is one
+  pub record Attained : Type 0 where
+    pub turn : ℕ
+    pub below : turn < r .count
+    pub counts : openPlace c (runPlace r turn) ≡ true
+    pub is : runLeast r c ≡ figure c (runPlace r turn)
 
--- and one of them
-pub run-least-met : (r : PlaceRun) (c : List ℤ) → 0 < r .count → Attained r c
-unfolding runLeast
-run-least-met r c h =
-    let m = least-is (r .count - 1) (λ i. figure c (runPlace r i)) in
-    record { turn = m .which; below = omega (arith, m .below); is = m .is }
+  pub run-least-met : (i : ℕ) → i < r .count → openPlace c (runPlace r i) ≡ true → Attained
+  unfolding runLeast
+  run-least-met i h e =
+      let m = least-open-is (r .count) i (λ j. openPlace c (runPlace r j)) (λ j. figure c (runPlace r j)) h e in
+      record { turn = m .which; below = m .below; counts = m .taken; is = m .is }
 
-nat-mag : (z : ℤ) → nat z ≤ mag z
-nat-mag (pos n) = omega arith
-nat-mag (negsuc n) = omega arith
+  -- 'where there are none, nothing moves'
+  pub run-least-none : ((i : ℕ) → i < r .count → openPlace c (runPlace r i) ≡ false) → runLeast r c ≡ 0
+  unfolding runLeast
+  run-least-none h = least-open-none (r .count) (λ i. openPlace c (runPlace r i)) (λ i. figure c (runPlace r i)) h
 
-pub room-figure : (p : ℕ) (c : List ℤ) (h : ℕ) → Room c h → figure c p ≤ h
-unfolding figure
-room-figure p c h o = omega (arith, nat-mag (at c p), o .room p)
+  -- it goes no further than the open numbers of the run
+  pub run-least-most : (high : ℕ) → ((i : ℕ) → i < r .count → openPlace c (runPlace r i) ≡ true → figure c (runPlace r i) ≤ high) → runLeast r c ≤ high
+  unfolding runLeast
+  run-least-most high h = least-open-most (r .count) (λ i. openPlace c (runPlace r i)) (λ i. figure c (runPlace r i)) high h
 
-pub run-least-room : (r : PlaceRun) (c : List ℤ) (h : ℕ) → Room c h → runLeast r c ≤ h
-run-least-room r c h o = omega (arith, run-least-first r c, room-figure (runPlace r 0) c h o)
+  pub run-least-room : (h : ℕ) → Room c h → runLeast r c ≤ h
+  run-least-room h o = run-least-most h (λ i l e. room-figure (runPlace r i) c h o)
 
 -- ---- what one tightening leaves at each place
 
-module _ {r : PlaceRun} (f : BetweenCosts r) (c : List ℤ) (len : length c ≡ blockLength) (natural : (p : ℕ) → at c p ≡ pos (figure c p)) where
-  pub tight-met : (p : ℕ) → Met r p → at (runTightened r c) p ≡ pos (figure c p - runLeast r c)
-  unfolding runTightened
-  tight-met p m =
-      let l = runLeast r c in
-      move-met r (pos l) c (between-costs-run c len f) (f .missed) p m ∙ ap (λ (z : ℤ). z +ℤ negℤ (pos l)) (natural p) ∙ less (figure c p) l (run-least-le r p c m)
+pub tight-is : (r : PlaceRun) (c : List ℤ) → moveRun r (pos (runLeast r c)) c ≡ runTightened r c
+unfolding runTightened
+tight-is r c = refl
 
-  pub tight-to : at (runTightened r c) (r .to) ≡ pos (figure c (r .to) + runLeast r c)
+module _ {r : PlaceRun} (f : BetweenCosts r) (c : List ℤ) where
+  pub tight-loaded : SameLoaded c (runTightened r c)
   unfolding runTightened
-  tight-to = let l = runLeast r c in move-to r (pos l) c (between-costs-run c len f) (f .missed) (r .to) refl ∙ ap (λ (z : ℤ). z +ℤ pos l) (natural (r .to))
+  tight-loaded = move-loaded r (pos (runLeast r c)) c f
 
   pub tight-other : (p : ℕ) → p ≢ r .to → Missed r p → at (runTightened r c) p ≡ at c p
   unfolding runTightened
   tight-other p n m = move-other r (pos (runLeast r c)) c p n m
 
-  -- the three cases of a place
-  pub tight-cases : (P : ℤ → Type 0) (p : ℕ)
-      → (Met r p → P (pos (figure c p - runLeast r c)))
-      → (p ≡ r .to → P (pos (figure c (r .to) + runLeast r c)))
-      → P (pos (figure c p))
-      → P (at (runTightened r c) p)
-  tight-cases P p x y z = ⊎-elim (λ (m : Met r p). rw (tight-met p m) (x m)) (λ (m : Missed r p). by m (ℕ-discrete p (r .to))) (meet r p)
-    where
-      by : Missed r p → Dec (p ≡ r .to) → P (at (runTightened r c) p)
-      by m (yes e) = rw (e, tight-to) (y e)
-      by m (no n) = rw (tight-other p n m, natural p) z
+  pub tight-room : (h high : ℕ) → length c ≡ blockLength → runLeast r c ≤ high → Room c h → Room (runTightened r c) (h + (2 * high + 3))
+  unfolding runTightened
+  tight-room h high len g o = room-more (h + (2 * high + 3)) (move-room r (pos (runLeast r c)) c (between-costs-run c len f) h o) (omega arith)
+
+  module _ (len : length c ≡ blockLength) (o : NonNegative c) where
+    pub tight-met : (p : ℕ) → Met r p → openPlace c p ≡ true → at (runTightened r c) p ≡ pos (figure c p - runLeast r c)
+    unfolding runTightened
+    tight-met p m e =
+        let l = runLeast r c in
+        let h : p < blockLength = omega (arith, f .inside (m .turn) (m .below), m .is) in
+        move-met r (pos l) c (between-costs-run c len f) (f .missed) p m ∙ ap (λ (z : ℤ). z +ℤ negℤ (pos l)) (o .natural p h e) ∙ less (figure c p) l (run-least-le r c p m e)
+
+    pub tight-to : openPlace c (r .to) ≡ true → at (runTightened r c) (r .to) ≡ pos (figure c (r .to) + runLeast r c)
+    unfolding runTightened
+    tight-to e =
+        let l = runLeast r c in
+        move-to r (pos l) c (between-costs-run c len f) (f .missed) (r .to) refl ∙ ap (λ (z : ℤ). z +ℤ pos l) (o .natural (r .to) (f .there) e)
+
+    -- the three cases of an open place
+    pub tight-cases : (P : ℤ → Type 0) (p : ℕ) → p < blockLength → openPlace c p ≡ true
+        → (Met r p → P (pos (figure c p - runLeast r c)))
+        → (p ≡ r .to → P (pos (figure c p + runLeast r c)))
+        → P (pos (figure c p))
+        → P (at (runTightened r c) p)
+    tight-cases P p h e x y z = ⊎-elim (λ (m : Met r p). rw (tight-met p m e) (x m)) (λ (m : Missed r p). by m (ℕ-discrete p (r .to))) (meet r p)
+      where
+        by : Missed r p → Dec (p ≡ r .to) → P (at (runTightened r c) p)
+        by m (yes q) = rw (ap (at (runTightened r c)) q ∙ tight-to (ap (openPlace c) (sym q) ∙ e) ∙ ap (λ (n : ℕ). pos (figure c n + runLeast r c)) (sym q)) (y q)
+        by m (no n) = rw (tight-other p n m, o .natural p h e) z
 
 -- ---- while a block is tightened
 
--- what is taken comes from places from `source` on, where no number is above `high`, and none anywhere is above `room`
+-- what is taken comes from places from `source` on, where no open number is above `high`; none anywhere is further than `room` from 0
 pub record Falling (source high room : ℕ) (c : List ℤ) : Type 0 where
-  pub natural : (p : ℕ) → at c p ≡ pos (figure c p)
-  pub sources : (p : ℕ) → source ≤ p → figure c p ≤ high
-  pub most : (p : ℕ) → figure c p ≤ room
-
-pub falling-room : {source high room : ℕ} {c : List ℤ} → Falling source high room c → Room c room
-falling-room {c = c} f = record { room = λ p. omega (arith, nat-room (at c p) (figure c p) (f .natural p), f .most p) }
-
-pub falling-non-negative : {source high room : ℕ} {c : List ℤ} → Falling source high room c → NonNegative c
-falling-non-negative f = record { natural = f .natural }
+  pub whole : NonNegative c
+  pub sources : (p : ℕ) → p < blockLength → openPlace c p ≡ true → source ≤ p → figure c p ≤ high
+  pub most : Room c room
 
 -- where it begins
 pub falling-start : {b : List ℤ} → NonNegative b → {h : ℕ} → Room b h → {source : ℕ} → Falling source h h b
-falling-start {b} n {h} o = record { natural = n .natural; sources = λ p l. room-figure p b h o; most = λ p. room-figure p b h o }
+falling-start {b} n {h} o = record { whole = n; sources = λ p q e l. room-figure p b h o; most = o }
 
 pub falling-step : {source high room : ℕ} {r : PlaceRun} {c : List ℤ} → BetweenCosts r → length c ≡ blockLength → source ≤ r .from → r .to < source
-    → Falling source high room c → Falling source high (room + high) (runTightened r c)
+    → Falling source high room c → Falling source high (room + (2 * high + 3)) (runTightened r c)
 unfolding figure
-falling-step {source} {high} {room} {r} {c} f len below above o =
-    let l = runLeast r c in
-    let g : l ≤ high = omega (arith, run-least-first r c, o .sources (runPlace r 0) (omega arith)) in
+falling-step {source} {high} {room} {r} {c} f len below above x =
+    let g : runLeast r c ≤ high = run-least-most r c high (λ i l e. x .sources (runPlace r i) (f .inside i l) e (omega arith)) in
+    let still = open-same (tight-loaded f c) in
     record {
-      natural = λ p. tight-cases f c len (o .natural) (λ z. z ≡ pos (nat z)) p (λ m. refl) (λ e. refl) refl;
-      sources = λ p h. tight-cases f c len (o .natural) (λ z. nat z ≤ high) p (λ m. omega (arith, o .sources p h)) (λ e. absurd (omega arith)) (o .sources p h);
-      most = λ p. tight-cases f c len (o .natural) (λ z. nat z ≤ room + high) p
-          (λ m. omega (arith, o .most p)) (λ e. omega (arith, o .most (r .to))) (omega (arith, o .most p));
+      whole = record {
+        natural = λ p h e. tight-cases f c len (x .whole) (λ z. z ≡ pos (nat z)) p h (sym (still p h) ∙ e) (λ m. refl) (λ q. refl) refl;
+      };
+      sources = λ p h e l.
+          let d = sym (still p h) ∙ e in
+          tight-cases f c len (x .whole) (λ z. nat z ≤ high) p h d (λ m. omega (arith, x .sources p h d l)) (λ q. absurd (omega arith)) (x .sources p h d l);
+      most = tight-room f c room high len g (x .most);
     }
 
 falling-more : {source high room more : ℕ} {c : List ℤ} → room ≤ more → Falling source high room c → Falling source high more c
-falling-more h f = record { natural = f .natural; sources = f .sources; most = λ p. omega (arith, f .most p) }
+falling-more {more = more} h f = record { whole = f .whole; sources = f .sources; most = room-more more (f .most) h }
 
 -- the moves of a tightening
 pub record Tight (source : ℕ) (r : PlaceRun) (c : List ℤ) (α : ℤ) : Type 0 where
@@ -127,17 +150,13 @@ pub record Tight (source : ℕ) (r : PlaceRun) (c : List ℤ) (α : ℤ) : Type 
   pub below : source ≤ r .from
   pub above : r .to < source
 
-pub tight-is : (r : PlaceRun) (c : List ℤ) → moveRun r (pos (runLeast r c)) c ≡ runTightened r c
-unfolding runTightened
-tight-is r c = refl
-
 pub moved-falling : {source high room : ℕ} {b : List ℤ} → ShapeInRange b → Falling source high room b → {n : ℕ} {c : List ℤ} → Moved (Tight source) b n c
-    → Falling source high (room + n * high) c
+    → Falling source high (room + n * (2 * high + 3)) c
 moved-falling {source} {high} {room} s o {n} none = falling-more (omega arith) o
 moved-falling {source} {high} {room} s o {n} (move {m} {run = run} {c} α l p r w) =
     let e : length c ≡ blockLength = moved-shape s w .whole ∙ s .whole in
     rw (r .is, tight-is run c)
-    (falling-more (omega (arith, suc-mul m high, mul-le-mul-right high l)) (falling-step (project-between-costs s p) e (r .below) (r .above) (moved-falling s o w)))
+    (falling-more (omega (arith, suc-mul m (2 * high + 3), mul-le-mul-right (2 * high + 3) l)) (falling-step (project-between-costs s p) e (r .below) (r .above) (moved-falling s o w)))
 
 -- the constant only grows: no run holds it
 pub moved-raises : {source high room : ℕ} {b : List ℤ} → heldChoicesFrom ≤ source → ShapeInRange b → Falling source high room b
@@ -148,8 +167,8 @@ moved-raises {b = b} h s o (move {run = run} {c} α l p r w) =
     let e : length c ≡ blockLength = moved-shape s w .whole ∙ s .whole in
     let g = moved-raises h s o w in
     rw (r .is, tight-is run c)
-    (tight-cases (project-between-costs s p) c e (moved-falling s o w .natural) (λ z. figure b constantPlace ≤ nat z) constantPlace
-    (λ m. absurd (omega (arith, r .below, m .is))) (λ q. rw (← q) (omega arith)) g)
+    (tight-cases (project-between-costs s p) c e (moved-falling s o w .whole) (λ z. figure b constantPlace ≤ nat z) constantPlace (omega arith) (open-constant c)
+    (λ m. absurd (omega (arith, r .below, m .is))) (λ q. omega arith) g)
 
 -- ---- folds over lanes and over trains
 
@@ -178,34 +197,40 @@ module _ {b : List ℤ} (s : ShapeInRange b) where
 
 -- ---- what a train is left with
 
--- a choice of train i, as many as b says, that costs nothing in c
+-- a permitted choice of train i, by b, that costs nothing in c
 pub record Zero (b c : List ℤ) (i : ℕ) : Type 0 where
   pub which : ℕ
   pub below : which < size b i
+  pub permitted : shapeOf b .choiceOpen i which ≡ true
   pub is : heldChoice c i which ≡ 0
 
-pub zero-as : {b d c : List ℤ} {i : ℕ} → size d i ≡ size b i → Zero d c i → Zero b c i
-zero-as e z = record { which = z .which; below = rw e at (z .below); is = z .is }
-
--- the train whose turn it is gets one, and the others keep theirs
-pub train-zero : {c : List ℤ} → ShapeInRange c → NonEmpty c → ((p : ℕ) → at c p ≡ pos (figure c p)) → (i : ℕ) → i < trains c
-    → Zero c (trainTightened i c) i × ((j : ℕ) → j < trains c → j ≢ i → Zero c c j → Zero c (trainTightened i c) j)
-train-zero {c} s o natural i h =
+-- the train whose turn it is gets one, if it has a permitted choice, and the others keep theirs
+pub train-zero : {c : List ℤ} → ShapeInRange c → NonNegative c → (i : ℕ) → i < trains c
+    → ((a : ℕ) → a < size c i → shapeOf c .choiceOpen i a ≡ true → Zero c (trainTightened i c) i) × ((j : ℕ) → j < trains c → j ≢ i → Zero c c j → Zero c (trainTightened i c) j)
+train-zero {c} s o i h =
     let f = project-between-costs s (unary i h) in
-    let d = s .sizes i (omega (arith, s .trains)) in
-    let m = run-least-met (choicesRun c i) c (o .sizes i h) in
-    let p : heldChoicePlace i (m .turn) ≡ heldChoicePlace i 0 + 1 * m .turn = omega arith in
-    let v = tight-met f c (s .whole) natural (heldChoicePlace i (m .turn)) (record { turn = m .turn; below = m .below; is = p }) in
-    let u = figure-at (trainTightened i c) (heldChoicePlace i (m .turn)) (figure c (heldChoicePlace i (m .turn)) - runLeast (choicesRun c i) c) v in (
-      record { which = m .turn; below = m .below; is = omega (arith, u, m .is, ap (figure c) p) },
-      λ j g n z. let q = s .sizes j (omega (arith, s .trains)) in record {
+    let d = s .sizes i (omega (arith, s .trains)) in (
+      (λ a l e.
+          let q : runPlace (choicesRun c i) a ≡ heldChoicePlace i a = omega arith in
+          let m = run-least-met (choicesRun c i) c a l (ap (openPlace c) q ∙ open-choice c i a (omega (arith, s .trains)) (omega arith) ∙ e) in
+          let p : heldChoicePlace i (m .turn) ≡ heldChoicePlace i 0 + 1 * m .turn = omega arith in
+          let g = ap (openPlace c) p ∙ m .counts in
+          let v = tight-met f c (s .whole) o (heldChoicePlace i (m .turn)) (record { turn = m .turn; below = m .below; is = p }) g in
+          let u = figure-at (trainTightened i c) (heldChoicePlace i (m .turn)) (figure c (heldChoicePlace i (m .turn)) - runLeast (choicesRun c i) c) v in
+          record {
+            which = m .turn;
+            below = m .below;
+            permitted = sym (open-choice c i (m .turn) (omega (arith, s .trains)) (omega (arith, m .below))) ∙ g;
+            is = omega (arith, u, m .is, ap (figure c) p);
+          }),
+      (λ j g n z. let q = s .sizes j (omega (arith, s .trains)) in record {
         which = z .which;
         below = z .below;
+        permitted = z .permitted;
         is = omega (
           arith,
           z .is,
-          same-figure c (trainTightened i c) (heldChoicePlace j (z .which))
-              (tight-other f c (s .whole) natural (heldChoicePlace j (z .which)) (λ e. omega arith) (λ t l e. n (omega (arith, z .below)))),
+          same-figure c (trainTightened i c) (heldChoicePlace j (z .which)) (tight-other f c (heldChoicePlace j (z .which)) (λ e. omega arith) (λ t l e. n (omega (arith, z .below)))),
         );
-      },
+      }),
     )

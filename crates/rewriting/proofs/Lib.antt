@@ -4,8 +4,12 @@ pub mod Runs
 pub mod Shape
 pub mod Steps
 pub mod Turns
+pub mod Opens
+pub mod LeastOpen
 pub mod Falls
-pub mod Totals
+pub mod Holds
 pub mod Reach
+pub mod Kept
+pub mod PutBack
 pub mod Rewritten
 pub mod Judged

@@ -1,5 +1,5 @@
 -- The moves of an operation go between costs of its block, so that they keep the shape: a study, its shape, and the chains of moves from it.
-use mathlib.Core.Path.{_≡_, refl, ap, _∙_}
+use mathlib.Core.Path.{_≡_, refl, sym, ap, _∙_}
 use mathlib.Core.Bool.{Bool, true, false, cond}
 use mathlib.Core.List.{List}
 use mathlib.Core.Logic.{_⊎_, inl, inr, ⊎-elim, dite}
@@ -8,19 +8,23 @@ use native.Mathlib.Decide.{decLt}
 use native.Mathlib.Nat.{add-zero, mul-zero}
 use native.Mathlib.Omega.{arith}
 use lib.Dec.{ltb, eqb}
-use lib.IntN.{ℤ, pos}
+use lib.IntN.{ℤ, pos, negsuc}
 use lib.ListN.{length, List·getD-eq-default}
 use lib.Signed.{mag}
+use borrow.Author.Tests.{eqb-true}
 use Rattle.theory.specs.Fold.{iter}
+use Rattle.theory.proofs.Range.{both-true}
 use Rattle.theory.proofs.Fold.{iter-ind}
 use Rattle.units.specs.Units.{scaleMin, scaleMax}
-use Rattle.tables.specs.Block.{blockLength, maxTrains, maxChoices, maxPairs, maxCost, maxParts, trainsPlace, scalePlace, pairsPlace, constantPlace, sizesFrom, firstsFrom, secondsFrom, loadedChoicesFrom, heldChoicesFrom, loadedEntriesFrom, heldEntriesFrom, at, figure, trains, pairs, size, first, second}
-use Rattle.tables.specs.WellFormed.{Limits, fromTo, usedIf, choiceUsed, entryUsed, headLimits, shapeLimits, costLimits, limitsAt, Study}
-use Rattle.tables.proofs.Study.{study-place, trains-range, pairs-range, size-range, size-high, first-high, second-high, first-below-trains, second-below-trains, SameShape, same-trains, same-pairs, same-size, same-first, same-second}
+use Rattle.tables.specs.Block.{blockLength, maxTrains, maxChoices, maxPairs, maxCost, maxParts, trainsPlace, scalePlace, pairsPlace, constantPlace, sizesFrom, firstsFrom, secondsFrom, loadedChoicesFrom, heldChoicesFrom, loadedEntriesFrom, heldEntriesFrom, at, nat, figure, trains, pairs, size, first, second}
+use Rattle.tables.specs.WellFormed.{Limits, fromTo, costTo, within, usedIf, choiceUsed, entryUsed, headLimits, shapeLimits, costLimits, limitsAt, Study}
+use Rattle.tables.proofs.Limits.{within-high}
+use Rattle.tables.proofs.Study.{trains-range, pairs-range, size-range, size-high, first-high, second-high, first-below-trains, second-below-trains, SameShape, same-trains, same-pairs, same-size, same-first, same-second}
 use Rattle.rewriting.specs.declared.sides.PlaceRun.{PlaceRun}
 use Rattle.rewriting.specs.declared.sides.Side.{Side}
 use Rattle.rewriting.specs.declared.sides.Side.the-variants.{Rows, Columns}
-use Rattle.rewriting.specs.Moves.{Room, ShapeInRange, RunIn, runPlace, moveRun, laneTrain, laneRun, choicesRun, project, projectUnary, NonNegative, NonEmpty}
+use Rattle.rewriting.specs.Moves.{Room, ShapeInRange, RunIn, runPlace, moveRun, laneTrain, laneRun, choicesRun, project, projectUnary, NonEmpty}
+use Rattle.rewriting.specs.Leasts.{HeldPlace, HeldRun}
 use Rattle.rewriting.proofs.Runs.{Missed, move-length, move-other}
 
 -- ---- a study
@@ -39,6 +43,9 @@ range low high h = record { most = h }
 used : (t : Bool) (low high : ℕ) → high ≤ maxParts → Most (usedIf t (fromTo low high))
 used t low high h = choose t (range low high h) (range 0 0 (omega arith))
 
+used-cost : (t : Bool) (high : ℕ) → high ≤ maxParts → Most (usedIf t (costTo high))
+used-cost t high h = choose t (record { most = h }) (range 0 0 (omega arith))
+
 pub limits-most : (b : List ℤ) (p : ℕ) → Most (limitsAt b p)
 unfolding limitsAt shapeLimits headLimits costLimits
 limits-most b p =
@@ -48,23 +55,43 @@ limits-most b p =
     (choose (eqb p scalePlace) (range scaleMin scaleMax (omega arith)) (choose (eqb p pairsPlace) (range 0 maxPairs (omega arith)) (range 0 maxParts (omega arith)))))
     (choose (ltb p firstsFrom) (used (ltb (p - sizesFrom) (trains b)) 1 maxChoices (omega arith))
     (choose (ltb p secondsFrom) (used (ltb (p - firstsFrom) (pairs b)) 0 (maxTrains - 1) (omega arith)) (used (ltb (p - secondsFrom) (pairs b)) 0 (maxTrains - 1) (omega arith)))))
-    (choose (ltb p heldChoicesFrom) (used (choiceUsed b (p - loadedChoicesFrom)) 0 maxCost (omega arith))
-    (choose (ltb p loadedEntriesFrom) (used (choiceUsed b (p - heldChoicesFrom)) 0 maxParts (omega arith))
-    (choose (ltb p heldEntriesFrom) (used (entryUsed b (p - loadedEntriesFrom)) 0 maxCost (omega arith)) (used (entryUsed b (p - heldEntriesFrom)) 0 maxParts (omega arith)))))
+    (choose (ltb p heldChoicesFrom) (used-cost (choiceUsed b (p - loadedChoicesFrom)) maxCost (omega arith))
+    (choose (ltb p loadedEntriesFrom) (used-cost (choiceUsed b (p - heldChoicesFrom)) maxParts (omega arith))
+    (choose (ltb p heldEntriesFrom) (used-cost (entryUsed b (p - loadedEntriesFrom)) maxCost (omega arith)) (used-cost (entryUsed b (p - heldEntriesFrom)) maxParts (omega arith)))))
 
 pub nat-room : (z : ℤ) (n : ℕ) → z ≡ pos n → mag z ≡ n
 nat-room z n e = rw e
 
-past-end : (b : List ℤ) (p : ℕ) → at b p ≡ pos 0 → (at b p ≡ pos (figure b p)) × (figure b p ≤ maxParts)
+past-end : (b : List ℤ) (p : ℕ) → at b p ≡ pos 0 → mag (at b p) ≤ maxParts
+past-end b p e = rw e (omega arith)
+
+-- −1 is as near to 0 as 0 is
+within-near : (l : Limits) (z : ℤ) → within l z ≡ true → mag z ≤ l .high
+unfolding within
+within-near l (pos n) e = within-high l (pos n) e
+within-near l (negsuc n) e = omega (arith, eqb-true n 0 (both-true (l .closable) (eqb n 0) e .1))
+
+nat-near : (z : ℤ) → nat z ≤ mag z
+nat-near (pos n) = omega arith
+nat-near (negsuc n) = omega arith
+
+-- no figure is further from 0 than its number
+pub room-figure : (p : ℕ) (c : List ℤ) (h : ℕ) → Room c h → figure c p ≤ h
 unfolding figure
-past-end b p e = rw e (refl, omega arith)
+room-figure p c h o = omega (arith, nat-near (at c p), o .room p)
 
 module _ {b : List ℤ} (s : Study b) where
-  -- every number of a study is natural and at most L
-  pub study-figure : (p : ℕ) → (at b p ≡ pos (figure b p)) × (figure b p ≤ maxParts)
-  study-figure p =
-      dite (decLt p blockLength) (λ (h : p < blockLength). (study-place s p h .natural, omega (arith, study-place s p h .high, limits-most b p .most)))
-      (λ n. past-end b p (List·getD-eq-default b (pos 0) (omega (arith, s .whole))))
+  -- no number of a study is further from 0 than L
+  pub study-room : Room b maxParts
+  study-room =
+      record {
+        room = λ p.
+            dite (decLt p blockLength) (λ (h : p < blockLength). omega (arith, within-near (limitsAt b p) (at b p) (s .places p h), limits-most b p .most))
+            (λ n. past-end b p (List·getD-eq-default b (pos 0) (omega (arith, s .whole))));
+      }
+
+  pub study-figure : (p : ℕ) → figure b p ≤ maxParts
+  study-figure p = room-figure p b maxParts study-room
 
   pub study-shape-in-range : ShapeInRange b
   study-shape-in-range =
@@ -80,12 +107,6 @@ module _ {b : List ℤ} (s : Study b) where
   pub study-non-empty : NonEmpty b
   study-non-empty = record { sizes = λ i h. size-range s i h .0; firsts = first-below-trains s; seconds = second-below-trains s }
 
-  pub study-non-negative : NonNegative b
-  study-non-negative = record { natural = λ p. study-figure p .0 }
-
-  pub study-room : Room b maxParts
-  study-room = record { room = λ p. omega (arith, nat-room (at b p) (figure b p) (study-figure p .0), study-figure p .1) }
-
 -- ---- blocks of the same shape
 
 pub shape-same : (b : List ℤ) → SameShape b b
@@ -93,6 +114,25 @@ shape-same b = record { whole = refl; kept = λ p h n. refl }
 
 pub shape-then : {b c d : List ℤ} → SameShape b c → SameShape c d → SameShape b d
 shape-then e f = record { whole = f .whole ∙ e .whole; kept = λ p h n. f .kept p h n ∙ e .kept p h n }
+
+-- a place of H
+pub record Between (from to p : ℕ) : Type 0 where
+  pub low : from ≤ p
+  pub high : p < to
+
+pub record Loaded (p : ℕ) : Type 0 where
+  pub table : Between loadedChoicesFrom heldChoicesFrom p ⊎ Between loadedEntriesFrom heldEntriesFrom p
+
+-- c has the shape of b, and H as b has it: it differs from b in held costs and constant only
+pub record SameLoaded (b c : List ℤ) : Type 0 where
+  pub shape : SameShape b c
+  pub loaded : (p : ℕ) → Loaded p → at c p ≡ at b p
+
+pub loaded-same : (b : List ℤ) → SameLoaded b b
+loaded-same b = record { shape = shape-same b; loaded = λ p l. refl }
+
+pub loaded-then : {b c d : List ℤ} → SameLoaded b c → SameLoaded c d → SameLoaded b d
+loaded-then e f = record { shape = shape-then (e .shape) (f .shape); loaded = λ p l. f .loaded p l ∙ e .loaded p l }
 
 module _ {b c : List ℤ} (e : SameShape b c) (s : ShapeInRange b) where
   pub shape-in-range-kept : ShapeInRange c
@@ -140,13 +180,13 @@ project-kept {b} {c} e s (unary i h) =
     let l : i < trains b = omega (arith, same-trains e) in
     rw (same-size e i (omega (arith, s .trains))) (unary i l)
 
--- all its places are costs or the constant, and it goes to none of those that it comes from
+-- all its places are held costs, or the constant, and it goes to none of those that it comes from
 pub record BetweenCosts (r : PlaceRun) : Type 0 where
   pub apart : 0 < r .step
   pub inside : (i : ℕ) → i < r .count → runPlace r i < blockLength
   pub there : r .to < blockLength
-  pub costs : heldChoicesFrom ≤ r .from
-  pub goal : (r .to ≡ constantPlace) ⊎ (heldChoicesFrom ≤ r .to)
+  pub costs : HeldRun r
+  pub goal : (r .to ≡ constantPlace) ⊎ HeldPlace (r .to)
   pub missed : Missed r (r .to)
 
 module _ {b : List ℤ} (s : ShapeInRange b) where
@@ -168,8 +208,8 @@ module _ {b : List ℤ} (s : ShapeInRange b) where
         apart = omega arith;
         inside = λ i l. omega (arith, s .pairs);
         there = omega arith;
-        costs = omega arith;
-        goal = inr (omega arith);
+        costs = record { held = λ i l. record { low = omega arith; table = inr (omega arith) } };
+        goal = inr (record { low = omega arith; table = inl (omega arith) });
         missed = λ i l z. omega arith;
       }
   project-between-costs (lane Columns k x h q) =
@@ -180,8 +220,8 @@ module _ {b : List ℤ} (s : ShapeInRange b) where
         apart = omega arith;
         inside = λ i l. omega (arith, s .pairs);
         there = omega arith;
-        costs = omega arith;
-        goal = inr (omega arith);
+        costs = record { held = λ i l. record { low = omega arith; table = inr (omega arith) } };
+        goal = inr (record { low = omega arith; table = inl (omega arith) });
         missed = λ i l z. omega arith;
       }
   project-between-costs (unary i h) =
@@ -190,7 +230,7 @@ module _ {b : List ℤ} (s : ShapeInRange b) where
         apart = omega arith;
         inside = λ j l. omega (arith, s .trains);
         there = omega arith;
-        costs = omega arith;
+        costs = record { held = λ j l. record { low = omega arith; table = inl (omega (arith, s .trains)) } };
         goal = inl refl;
         missed = λ j l z. omega arith;
       }
@@ -202,18 +242,31 @@ between-costs-run c e f = record { apart = f .apart; inside = λ i l. omega (ari
 pub project-run : {b : List ℤ} {r : PlaceRun} → ShapeInRange b → Project b r → RunIn b r
 project-run {b} s p = between-costs-run b (s .whole) (project-between-costs s p)
 
--- a lane has an entry, where every train has a choice
-pub lane-non-empty : {b : List ℤ} → NonEmpty b → (side : Side) (k x : ℕ) → k < pairs b → 0 < laneRun side b k x .count
-lane-non-empty {b} f Rows k x h = f .sizes (second b k) (f .seconds k h)
-lane-non-empty {b} f Columns k x h = f .sizes (first b k) (f .firsts k h)
+-- no held cost is a place of H
+loaded-not-held : {p q : ℕ} → Loaded p → HeldPlace q → p ≡ q → ⊥
+loaded-not-held {p} {q} l h e =
+    ⊎-elim
+    (λ (w : Between loadedChoicesFrom heldChoicesFrom p). omega (arith, h .low))
+    (λ (w : Between loadedEntriesFrom heldEntriesFrom p). ⊎-elim (λ (v : q < loadedEntriesFrom). omega arith) (λ (v : heldEntriesFrom ≤ q). omega arith) (h .table))
+    (l .table)
 
-pub move-shape : (r : PlaceRun) (α : ℤ) (b : List ℤ) → BetweenCosts r → SameShape b (moveRun r α b)
-move-shape r α b f =
+loaded-not-constant : {p : ℕ} → Loaded p → p ≡ constantPlace → ⊥
+loaded-not-constant {p} l e =
+    ⊎-elim (λ (w : Between loadedChoicesFrom heldChoicesFrom p). omega arith) (λ (w : Between loadedEntriesFrom heldEntriesFrom p). omega arith) (l .table)
+
+-- a move changes neither the shape nor H
+pub move-loaded : (r : PlaceRun) (α : ℤ) (b : List ℤ) → BetweenCosts r → SameLoaded b (moveRun r α b)
+move-loaded r α b f =
     record {
-      whole = move-length r α b;
-      kept = λ p h n. move-other r α b p
-          (λ e. ⊎-elim (λ (g : r .to ≡ constantPlace). n (e ∙ g)) (λ (g : heldChoicesFrom ≤ r .to). omega arith) (f .goal))
-          (λ i l e. omega (arith, f .costs));
+      shape = record {
+        whole = move-length r α b;
+        kept = λ p h n. move-other r α b p
+            (λ e. ⊎-elim (λ (g : r .to ≡ constantPlace). n (e ∙ g)) (λ (g : HeldPlace (r .to)). omega (arith, g .low)) (f .goal))
+            (λ i l e. omega (arith, f .costs .held i l .low));
+      };
+      loaded = λ p q. move-other r α b p
+          (λ e. ⊎-elim (λ (g : r .to ≡ constantPlace). loaded-not-constant q (e ∙ g)) (λ (g : HeldPlace (r .to)). loaded-not-held q g e) (f .goal))
+          (λ i l e. loaded-not-held q (f .costs .held i l) e);
     }
 
 -- ---- chains of moves
@@ -245,9 +298,12 @@ moved-more h none = none
 moved-more {n = n} h (move {m = i} α l p r w) = let q : i < n = omega arith in move α q p r w
 
 module _ {R : Asked} {b : List ℤ} (s : ShapeInRange b) where
+  pub moved-loaded : {n : ℕ} {c : List ℤ} → Moved R b n c → SameLoaded b c
+  moved-loaded none = loaded-same b
+  moved-loaded (move {run = run} {c} α l p r w) = loaded-then (moved-loaded w) (move-loaded run α c (project-between-costs s p))
+
   pub moved-shape : {n : ℕ} {c : List ℤ} → Moved R b n c → SameShape b c
-  moved-shape none = shape-same b
-  moved-shape (move {run = run} {c} α l p r w) = shape-then (moved-shape w) (move-shape run α c (project-between-costs s p))
+  moved-shape w = moved-loaded w .shape
 
   -- the same run, as a block on the way has it
   module _ {n : ℕ} {c : List ℤ} (w : Moved R b n c) where

@@ -2,11 +2,11 @@
 use mathlib.Core.Path.{_≡_}
 use mathlib.Core.List.{List}
 use Prim.Native.Nat.{ℕ, _+_, _*_, _<_, _≤_}
-use lib.IntN.{ℤ, negℤ, _+ℤ_, pos}
+use lib.IntN.{ℤ, negℤ, _+ℤ_}
 use lib.ListN.{length, set}
 use lib.Signed.{mag}
 use Rattle.theory.specs.Fold.{iter}
-use Rattle.tables.specs.Block.{blockLength, maxTrains, maxChoices, maxPairs, constantPlace, heldChoicePlace, heldEntryPlace, at, trains, pairs, size, first, second, figure}
+use Rattle.tables.specs.Block.{blockLength, maxTrains, maxChoices, maxPairs, constantPlace, heldChoicePlace, heldEntryPlace, at, trains, pairs, size, first, second}
 use Rattle.rewriting.specs.declared.sides.PlaceRun.{PlaceRun}
 use Rattle.rewriting.specs.declared.sides.Side.{Side}
 use Rattle.rewriting.specs.declared.sides.Side.the-variants.{Rows, Columns}
@@ -23,10 +23,6 @@ pub record ShapeInRange (b : List ℤ) : Type 0 where
   pub sizes : (i : ℕ) → i < maxTrains → size b i ≤ maxChoices
   pub firsts : (k : ℕ) → k < maxPairs → first b k < maxTrains
   pub seconds : (k : ℕ) → k < maxPairs → second b k < maxTrains
-
--- no number of the block is below 0: so it stays while leasts are moved
-pub record NonNegative (b : List ℤ) : Type 0 where
-  pub natural : (p : ℕ) → at b p ≡ pos (figure b p)
 
 -- each train has a choice, and each pair two trains that are there
 pub record NonEmpty (b : List ℤ) : Type 0 where

@@ -9,19 +9,21 @@ use native.Mathlib.Omega.{arith}
 use lib.IntN.{ℤ}
 use lib.ListN.{length, getD, set, length-set}
 use lib.Seq.{getD-set-same, getD-set-other}
-use Rattle.tables.specs.Block.{maxTrains, maxChoices, entriesOfPair, figure, trains, pairs, size, first, second}
+use Rattle.tables.specs.Block.{maxTrains, maxChoices, entriesOfPair, trains, pairs, size, first, second}
 use Rattle.tables.specs.Block as block
 use Rattle.tables.specs.WellFormed.{Study}
 use Rattle.tables.proofs.Study.{trains-range, pairs-range, size-range, first-below-trains, second-below-trains}
+use Rattle.rows.specs.Walled.{walled}
 use Rattle.rows.specs.Links.{ownRow, pairRow, sumsLength, Back, Begin}
 use Rattle.rows.specs.Table.{tableLength, rowFrom, sizesFrom, endsFrom, basesFrom, beginsFrom, trainsPlace, Part, CostsLaid, linkedPair, Linked, Laid, Owned}
+use Rattle.rows.proofs.Walled.{walled-shape}
 
 -- from place 0 on
 at-front : (l : List ℕ) (i : ℕ) → getD l i 0 ≡ getD l (0 + i) 0
 at-front l i = let z : i ≡ 0 + i = omega arith in ap (λ (v : ℕ). getD l v 0) z
 
 pub owned : {b : List ℤ} {n : ℕ} {l₀ l : List ℕ} → n ≡ trains b → length l₀ ≡ sumsLength
-    → Part (λ i v. v ≡ figure b (block.heldChoicesFrom + i)) 0 (maxChoices * n) l₀ l → Owned b l
+    → Part (λ i v. v ≡ walled b (block.heldChoicesFrom + i)) 0 (maxChoices * n) l₀ l → Owned b l
 owned {b} {n} {l₀} {l} e w p =
     record { whole = p .same ∙ w; own = λ j a h r. at-front l (maxChoices * j + a) ∙ p .inside (maxChoices * j + a) (omega arith) }
 
@@ -32,7 +34,7 @@ costs-none b l = record { same = refl; rows = λ i c a h. absurd (omega arith); 
 
 -- one pair more, of which as many rows are laid as its first train has choices
 pub costs-more : {b : List ℤ} → Study b → (k d : ℕ) {l₀ l l₁ : List ℕ} → k < pairs b → d ≡ size b (first b k) → CostsLaid b k l₀ l
-    → Part (λ i v. v ≡ figure b (block.heldEntriesFrom + entriesOfPair * k + i)) (entriesOfPair * k) (maxChoices * d) l l₁ → CostsLaid b (k + 1) l₀ l₁
+    → Part (λ i v. v ≡ walled b (block.heldEntriesFrom + entriesOfPair * k + i)) (entriesOfPair * k) (maxChoices * d) l l₁ → CostsLaid b (k + 1) l₀ l₁
 costs-more {b} s k d {l₀} {l} {l₁} q e u p =
     let z = size-range s (first b k) (first-below-trains s k q) in
     record {
@@ -43,7 +45,7 @@ costs-more {b} s k d {l₀} {l} {l₁} q e u p =
           let r′ : c < d = omega (arith, e, ap (λ (v : ℕ). size b (first b v)) g) in
           let place : rowFrom k c + a ≡ entriesOfPair * k + (maxChoices * c + a) = omega arith in
           let from : block.heldEntriesFrom + entriesOfPair * k + (maxChoices * c + a) ≡ block.heldEntryPlace k c a = omega arith in
-          rw (g, place) (p .inside (maxChoices * c + a) (omega arith) ∙ ap (figure b) from))
+          rw (g, place) (p .inside (maxChoices * c + a) (omega arith) ∙ ap (walled b) from))
           (λ (g : i < k). p .before (rowFrom i c + a) (omega (arith, size-range s (first b i) (first-below-trains s i (omega arith)))) ∙ u .rows i c a g r f)
           (eq-or-lt-of-le (omega arith));
       after = λ i h. p .after i (omega (arith, pairs-range s, z)) ∙ u .after i h;
@@ -105,19 +107,20 @@ linked-more {b} s k {l₀} {l} q w u =
 
 module _ {b : List ℤ} (s : Study b) {n : ℕ} (en : n ≡ trains b) {l₀ l₁ l₂ l₃ l₄ l₅ : List ℕ} (w : length l₀ ≡ tableLength)
     (p₁ : CostsLaid b (pairs b) l₀ l₁)
-    (p₂ : Part (λ i v. v ≡ figure b (block.sizesFrom + i)) sizesFrom n l₁ l₂)
+    (p₂ : Part (λ i v. v ≡ walled b (block.sizesFrom + i)) sizesFrom n l₁ l₂)
     (p₃ : Linked b (pairs b) l₂ l₃)
     (p₄ : Part (Begin b) beginsFrom (trains b + 1) l₃ l₄)
-    (p₅ : Part (λ i v. v ≡ figure b (block.trainsPlace + i)) trainsPlace 1 l₄ l₅) where
+    (p₅ : Part (λ i v. v ≡ walled b (block.trainsPlace + i)) trainsPlace 1 l₄ l₅) where
   pub laid : Laid b l₅
   laid =
       let m = pairs-range s in
       let r = trains-range s in
       record {
         whole = omega (arith, w, p₁ .same, p₂ .same, p₃ .same, p₄ .same, p₅ .same);
-        n = p₅ .inside 0 (omega arith);
+        n = p₅ .inside 0 (omega arith) ∙ walled-shape s block.trainsPlace (omega arith);
         sizes = λ t g.
-            p₅ .before (sizesFrom + t) (omega arith) ∙ p₄ .before (sizesFrom + t) (omega arith) ∙ p₃ .before (sizesFrom + t) (omega arith) ∙ p₂ .inside t (omega arith);
+            p₅ .before (sizesFrom + t) (omega arith) ∙ p₄ .before (sizesFrom + t) (omega arith) ∙ p₃ .before (sizesFrom + t) (omega arith) ∙ p₂ .inside t (omega arith)
+            ∙ walled-shape s (block.sizePlace t) (omega arith);
         ends = λ t g. rw (p₅ .before (endsFrom + t) (omega arith) ∙ p₄ .before (endsFrom + t) (omega arith)) (p₃ .ends t g);
         bases = λ k g. rw (p₅ .before (basesFrom + k) (omega arith) ∙ p₄ .before (basesFrom + k) (omega arith)) (p₃ .bases k g);
         begins = λ t g. rw (p₅ .before (beginsFrom + t) (omega arith)) (p₄ .inside t g);

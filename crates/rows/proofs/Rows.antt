@@ -13,13 +13,15 @@ use lib.ListN.{getD}
 use borrow.Author.Tests.{eq-eqb, ne-eqb}
 use Rattle.theory.specs.Sum.{sum}
 use Rattle.theory.proofs.Sum.{sum-none, sum-more, sum-cong, sum-most}
-use Rattle.tables.specs.Block.{maxTrains, maxChoices, maxPairs, maxParts, trains, pairs, first, second, heldEntry}
+use Rattle.tables.specs.Block.{maxTrains, maxChoices, maxPairs, trains, pairs, first, second}
 use Rattle.tables.specs.WellFormed.{Study}
-use Rattle.tables.proofs.Study.{trains-range, pairs-range, size-range, held-choice-high, held-entry-high, first-below-second, pairs-ascend}
+use Rattle.tables.proofs.Study.{trains-range, pairs-range, size-range, first-below-second, pairs-ascend}
+use Rattle.rows.specs.Walled.{wall, walledEntry}
 use Rattle.rows.specs.Added.{rowAdded, sumBelow}
 use Rattle.rows.specs.Sums.{Summed, Steady, Carrying}
 use Rattle.rows.specs.Links.{ownRow, pairRow, Back, Begin}
 use Rattle.rows.specs.Table.{beginOf, rowFrom, Part, Owned}
+use Rattle.rows.proofs.Walled.{walled-choice-low, walled-entry-low}
 
 -- terms that are 0
 sum-gap : (f : ℕ → ℕ) (k d : ℕ) → ((i : ℕ) → k ≤ i → i < k + d → f i ≡ 0) → sum (k + d) f ≡ sum k f
@@ -74,7 +76,7 @@ module _ (b : List ℤ) where
               arith,
               u .rows k a p r,
               sum-cong (k + 1) (rowAdded b x j a) (rowAdded b y j a)
-                  (λ i c. ap (λ (v : ℕ). cond (eqb (second b i) j) (heldEntry b i v a) 0) (h (first b i) (g .before i (omega arith)))),
+                  (λ i c. ap (λ (v : ℕ). cond (eqb (second b i) j) (walledEntry b i v a) 0) (h (first b i) (g .before i (omega arith)))),
             );
       }
 
@@ -105,7 +107,7 @@ steady-part R f k q q₁ h p = record { same = p .same; stays = λ i r. p .befor
 
 -- the next pair's row is summed
 pub summed-more : (b : List ℤ) (l : List ℕ) (x : ℕ → ℕ) (q q₁ : List ℕ) (k c p : ℕ) → trains b ≤ maxTrains → second b k < trains b → Summed b x q k
-    → Back b (second b k) k p → x (first b k) ≡ c → ((a : ℕ) → a < maxChoices → getD l (rowFrom k c + a) 0 ≡ heldEntry b k c a)
+    → Back b (second b k) k p → x (first b k) ≡ c → ((a : ℕ) → a < maxChoices → getD l (rowFrom k c + a) 0 ≡ walledEntry b k c a)
     → Part (λ a v. v ≡ getD q (p + a) 0 + getD l (rowFrom k c + a) 0) (pairRow k) maxChoices q q₁ → Summed b x q₁ (k + 1)
 summed-more b l x q q₁ k c p n j u w e r t =
     record {
@@ -118,7 +120,7 @@ summed-more b l x q q₁ k c p n j u w e r t =
           (eq-or-lt-of-le (omega arith));
     }
   where
-    this : (a : ℕ) → rowAdded b x (second b k) a k ≡ heldEntry b k c a
+    this : (a : ℕ) → rowAdded b x (second b k) a k ≡ walledEntry b k c a
     this a = rw (eq-eqb (second b k) (second b k) refl, e)
 
 module _ {b : List ℤ} (s : Study b) where
@@ -149,14 +151,14 @@ module _ {b : List ℤ} (s : Study b) where
 
   -- a pair's row fits a number of 64 bits
   pub row-low : (x : ℕ → ℕ) (j k a : ℕ) → j < trains b → a < maxChoices → k ≤ pairs b → ((i : ℕ) → i < k → x (first b i) < maxChoices)
-      → sumBelow b x j a k ≤ maxParts + k * maxParts
+      → sumBelow b x j a k ≤ wall + k * wall
   row-low x j k a h r l g =
-      omega (arith, held-choice-high s j a (omega (arith, trains-range s)) r, sum-most k maxParts (rowAdded b x j a) (λ i c. at-pair i c))
+      omega (arith, walled-choice-low s j a (omega (arith, trains-range s)) r, sum-most k wall (rowAdded b x j a) (λ i c. at-pair i c))
     where
-      at-pair : (i : ℕ) → i < k → rowAdded b x j a i ≤ maxParts
+      at-pair : (i : ℕ) → i < k → rowAdded b x j a i ≤ wall
       at-pair i c =
           dite (ℕ-discrete (second b i) j)
-          (λ (e : second b i ≡ j). rw (eq-eqb (second b i) j e) (held-entry-high s i (x (first b i)) a (omega (arith, pairs-range s)) (g i c) r))
+          (λ (e : second b i ≡ j). rw (eq-eqb (second b i) j e) (walled-entry-low s i (x (first b i)) a (omega (arith, pairs-range s)) (g i c) r))
           (λ n. rw (ne-eqb (second b i) j n) (omega arith))
 
   -- the pairs' first trains ascend

@@ -4,9 +4,10 @@ use mathlib.Core.List.{List}
 use Prim.Native.Nat.{ℕ, _+_, _<_}
 use lib.IntN.{ℤ}
 use lib.ListN.{length, getD}
-use Rattle.tables.specs.Block.{maxChoices, trains, size, second, heldChoice}
+use Rattle.tables.specs.Block.{maxChoices, trains, size, second}
 use Rattle.tables.specs.WellFormed.{Study}
 use Rattle.tables.specs.Plans.{choicesOf}
+use Rattle.rows.specs.Walled.{walledChoice}
 use Rattle.rows.specs.Added.{sumBelow}
 use Rattle.rows.specs.Links.{ownRow, pairRow, sumsLength}
 use Rattle.rows.specs.Table.{beginOf, Laid}
@@ -19,7 +20,7 @@ pub record Sums (f : ℕ → ℕ) (l : List ℕ) : Type 0 where
 -- the rows of the pairs below f are summed, with the choices x
 pub record Summed (b : List ℤ) (x : ℕ → ℕ) (q : List ℕ) (f : ℕ) : Type 0 where
   pub whole : length q ≡ sumsLength
-  pub own : (j a : ℕ) → j < trains b → a < maxChoices → getD q (ownRow j + a) 0 ≡ heldChoice b j a
+  pub own : (j a : ℕ) → j < trains b → a < maxChoices → getD q (ownRow j + a) 0 ≡ walledChoice b j a
   pub rows : (k a : ℕ) → k < f → a < maxChoices → getD q (pairRow k + a) 0 ≡ sumBelow b x (second b k) a (k + 1)
 
 -- the rows before that of pair f stay

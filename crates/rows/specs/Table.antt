@@ -4,7 +4,8 @@ use mathlib.Core.List.{List}
 use Prim.Native.Nat.{ℕ, _+_, _*_, _<_, _≤_}
 use lib.IntN.{ℤ}
 use lib.ListN.{length, getD, set}
-use Rattle.tables.specs.Block.{maxTrains, maxChoices, maxPairs, entriesOfPair, trains, pairs, size, first, second, heldChoice, heldEntry}
+use Rattle.tables.specs.Block.{maxTrains, maxChoices, maxPairs, entriesOfPair, trains, pairs, size, first, second}
+use Rattle.rows.specs.Walled.{walledChoice, walledEntry}
 use Rattle.rows.specs.Links.{ownRow, pairRow, sumsLength, Back, Begin}
 
 -- ---- places
@@ -51,12 +52,12 @@ pub record Laid (b : List ℤ) (l : List ℕ) : Type 0 where
   pub ends : (t : ℕ) → t < trains b → Back b t (pairs b) (getD l (endsFrom + t) 0)
   pub bases : (k : ℕ) → k < pairs b → Back b (second b k) k (getD l (basesFrom + k) 0)
   pub begins : (t : ℕ) → t < trains b + 1 → Begin b t (beginOf l t)
-  pub rows : (k c a : ℕ) → k < pairs b → c < size b (first b k) → a < maxChoices → getD l (rowFrom k c + a) 0 ≡ heldEntry b k c a
+  pub rows : (k c a : ℕ) → k < pairs b → c < size b (first b k) → a < maxChoices → getD l (rowFrom k c + a) 0 ≡ walledEntry b k c a
 
 -- each train's own row
 pub record Owned (b : List ℤ) (q : List ℕ) : Type 0 where
   pub whole : length q ≡ sumsLength
-  pub own : (j a : ℕ) → j < trains b → a < maxChoices → getD q (ownRow j + a) 0 ≡ heldChoice b j a
+  pub own : (j a : ℕ) → j < trains b → a < maxChoices → getD q (ownRow j + a) 0 ≡ walledChoice b j a
 
 -- ---- how it is laid
 
@@ -70,7 +71,7 @@ pub record Part (R : ℕ → ℕ → Type 0) (at count : ℕ) (l₀ l : List ℕ
 -- the used rows of the first k pairs are laid, and all that stands behind the costs is as before
 pub record CostsLaid (b : List ℤ) (k : ℕ) (l₀ l : List ℕ) : Type 0 where
   pub same : length l ≡ length l₀
-  pub rows : (i c a : ℕ) → i < k → c < size b (first b i) → a < maxChoices → getD l (rowFrom i c + a) 0 ≡ heldEntry b i c a
+  pub rows : (i c a : ℕ) → i < k → c < size b (first b i) → a < maxChoices → getD l (rowFrom i c + a) 0 ≡ walledEntry b i c a
   pub after : (p : ℕ) → sizesFrom ≤ p → getD l p 0 ≡ getD l₀ p 0
 
 -- pair k is linked: its costs are added to the last row so far of its second train, and its own row is now the last

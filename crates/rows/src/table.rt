@@ -1,10 +1,10 @@
 // The table of a search: what the walk reads of a study, each number at a place of its own.
 ghost use mathlib.Core.Path.{_≡_};
-ghost use Prim.Native.Nat.{ℕ, _+_, _≤_, _<_};
-ghost use lib.IntN.{pos};
+ghost use Prim.Native.Nat.{_+_, _≤_, _<_};
 ghost use lib.ListN.{length};
-ghost use Rattle.tables.specs.Block.{at, figure, pairs};
+ghost use Rattle.tables.specs.Block.{pairs};
 ghost use Rattle.tables.specs.WellFormed.{Study};
+ghost use Rattle.rows.specs.Walled.{walled};
 ghost use Rattle.rows.specs.Links.{sumsLength};
 ghost use Rattle.rows.specs.Table.{tableLength, Part, CostsLaid, Laid, Owned};
 use crate::links;
@@ -25,15 +25,28 @@ pub const TRAINS_PLACE: usize = BEGINS_FROM + Block::TRAINS + 1;
 // How many numbers a table has.
 pub const LENGTH: usize = TRAINS_PLACE + 1;
 
-// Copies `count` numbers of the block, none below 0, from place `from` on, to places of a list, from `to` on.
+// What a forbidden place counts: above every total, and so far below 2^64 that a wall for a choice and one for each pair fit.
+pub const WALL: u64 = 1 << 50;
+
+// The number at place p, and the wall where it is forbidden.
+fn walled(b: &[i64], p: usize) -> u64
+    requires { ⌜ p < length (now b) ⌝ }
+    ensures { λ r. ⌜ r ≡ walled (now (b .entry)) p ⌝ }
+{
+    if places::is_open(b, p) {
+        return places::natural(b, p);
+    }
+    WALL
+}
+
+// Copies `count` numbers of the block, from place `from` on, to places of a list, from `to` on. A forbidden one is copied as the wall.
 fn copy(b: &[i64], from: usize, count: usize, list: &mut [u64], to: usize)
     requires { ⌜ (from + count ≤ length (now b)) × (to + count ≤ length (now list)) × (length (now list) ≤ tableLength) ⌝ }
-    requires { ⌜ ((i : ℕ) → i < count → at (now b) (from + i) ≡ pos (figure (now b) (from + i))) ⌝ }
-    ensures { λ _. ⌜ Part (λ i v. v ≡ figure (now (b .entry)) (from + i)) to count (now (list .entry)) (now (list .exit)) ⌝ }
+    ensures { λ _. ⌜ Part (λ i v. v ≡ walled (now (b .entry)) (from + i)) to count (now (list .entry)) (now (list .exit)) ⌝ }
 {
     let mut i = 0;
     while i < count {
-        list[to + i] = places::natural(b, from + i);
+        list[to + i] = walled(b, from + i);
         i += 1;
     }
 }

@@ -6,14 +6,14 @@ use native.Mathlib.Omega.{arith}
 use lib.ListN.{length, take, length-append}
 use lib.Seq.{length-take-le}
 use Rattle.theory.specs.Lists.{nth}
-use Rattle.tables.specs.Numbers.{Numbers, numbersShape}
+use Rattle.tables.specs.Numbers.{Numbers}
 use Rattle.frames.specs.Fields.{fieldDigits}
 use Rattle.frames.specs.Runs.{runDigits}
 use Rattle.frames.proofs.RunDigits.{run-first, run-whole}
 use Rattle.lines.specs.declared.kind.Kind.the-variants.{Load}
 use Rattle.lines.specs.Kinds.{kindNumber}
 use Rattle.lines.specs.Layout.{kindWidth, countWidth, scaleWidth, costWidth}
-use Rattle.lines.specs.Text.{headDigits, pairRun, pairsDigits, loadDigits}
+use Rattle.lines.specs.Text.{headDigits, pairRun, pairsDigits, textShape, loadDigits}
 use Rattle.replies.specs.Wrote.{Wrote}
 use Rattle.replies.proofs.Writing.{digits-first}
 
@@ -31,7 +31,7 @@ head-fields s sizes = rw (run-whole countWidth sizes []) (simp digits-first)
 -- the whole line
 pub load-fields : (x : Numbers)
     → headDigits (x .scale) (x .sizes) [] ++ runDigits costWidth (length (x .choices)) (λ k. nth (x .choices) (0 + k)) [] ++ fieldDigits countWidth (length (x .firsts)) []
-    ++ pairsDigits (numbersShape x) (x .entries) 0 (length (x .firsts)) []
+    ++ pairsDigits (textShape x) (x .entries) 0 (length (x .firsts)) []
     ≡ loadDigits x
 unfolding loadDigits
 load-fields x = rw (run-whole costWidth (x .choices) []) (simp (digits-first, run-first))

@@ -1,11 +1,13 @@
 -- A walk looks at the choices of decided trains only, and writes those of the others before it shows them: lists that differ at trains left lead to the same walk.
-use mathlib.Core.Path.{_≡_, refl, sym, ap, _∙_}
+use mathlib.Core.Path.{_≡_, refl, sym, ap₂, _∙_}
+use mathlib.Core.Bool.{Bool}
 use mathlib.Core.List.{List, [], _∷_}
 use mathlib.Core.Logic.{⊎-elim, dite}
 use Prim.Native.Nat.{ℕ, zero, suc, _+_, _-_, _<_}
 use native.Mathlib.Nat.{eq-or-lt-of-le}
 use native.Mathlib.Decide.{decLt}
 use native.Mathlib.Omega.{arith}
+use lib.Dec.{leb}
 use lib.IntN.{ℤ}
 use lib.ListN.{length, getD, set, length-set}
 use lib.Seq.{getD-set-same, getD-set-other}
@@ -13,9 +15,11 @@ use Rattle.tables.specs.Block.{maxTrains, trains}
 use Rattle.tables.specs.WellFormed.{Study}
 use Rattle.tables.specs.Plans.{choicesOf, Shape, Costs, heldCosts}
 use Rattle.tables.proofs.Study.{trains-range}
+use Rattle.rows.specs.Walled.{wall}
 use Rattle.search.specs.declared.walk.Walk.{Walk}
-use Rattle.search.specs.Walk.{added, Decided, oneTry, triedFrom, choiceTry, openedTrain}
+use Rattle.search.specs.Walk.{barred, added, Decided, oneTry, triedFrom, choiceTry, openedTrain}
 use Rattle.search.specs.Held.{Alike, tryOf}
+use Rattle.search.proofs.Barred.{barred-cong}
 use Rattle.search.proofs.Totals.{Walkable, added-cong, partial-cong}
 use Rattle.search.proofs.Studies.{study-walkable}
 
@@ -67,8 +71,11 @@ module _ {s : Shape} (o : Walkable s) (c : Costs) where
       → (v : Walk) → choiceTry s c budget next t partial x a v ≡ choiceTry s c budget next t partial y a v
   choice-alike budget next t partial a x y h n v =
       let total = partial + added s c (choicesOf (set y t a)) t in
-      ap (λ (z : ℕ). oneTry budget (partial + z) (next (partial + z) (set x t a)) v) (added-cong o c (choicesOf (set x t a)) (choicesOf (set y t a)) t h)
-      ∙ (λ i. oneTry budget total (λ u. n total u i) v)
+      let bar = barred s (choicesOf (set y t a)) t in
+      ap₂ (λ (r : Bool) (z : ℕ). oneTry budget r (partial + z) (next (partial + z) (set x t a)) v)
+      (barred-cong (o .shaped) (choicesOf (set x t a)) (choicesOf (set y t a)) t h)
+      (added-cong o c (choicesOf (set x t a)) (choicesOf (set y t a)) t h)
+      ∙ (λ i. oneTry budget bar total (λ u. n total u i) v)
 
   pub opened-alike : (budget left t partial : ℕ) (x y : List ℕ) → t + left ≡ s .trains → length x ≡ maxTrains → Alike t (s .trains) x y
       → (w : Walk) → openedTrain s c budget left t partial x w ≡ openedTrain s c budget left t partial y w
@@ -87,6 +94,7 @@ module _ {s : Shape} (o : Walkable s) (c : Costs) where
       record {
         whole = sym (p .same) ∙ d .whole;
         below = λ i h. rw (← p .before i h) (d .below i h);
+        permitted = λ i h. barred-cong (o .shaped) (choicesOf y) (choicesOf x) i (λ j q. sym (p .before j (omega arith))) ∙ d .permitted i h;
         total = d .total ∙ partial-cong o c (choicesOf x) (choicesOf y) t (p .before);
       }
 
@@ -96,4 +104,4 @@ pub try-alike : {b : List ℤ} → Study b → (budget t a total : ℕ) (x y : L
 unfolding tryOf
 try-alike {b} s budget t a total x y h l p w =
     let q = alike-next a h (omega (arith, l, trains-range s)) p in
-    λ i. oneTry budget total (λ u. opened-alike (study-walkable s) (heldCosts b) budget (trains b - (t + 1)) (t + 1) total (set x t a) (set y t a) (omega arith) (length-set x t a ∙ l) q u i) w
+    λ i. oneTry budget (leb wall total) total (λ u. opened-alike (study-walkable s) (heldCosts b) budget (trains b - (t + 1)) (t + 1) total (set x t a) (set y t a) (omega arith) (length-set x t a ∙ l) q u i) w

@@ -7,24 +7,26 @@ use native.Mathlib.Omega.{arith}
 use lib.Dec.{leb, ltb, eqb}
 use lib.IntN.{ℤ}
 use lib.ListN.{getD, set}
-use borrow.Author.Tests.{lt-ltb, le-leb, lt-leb, eq-eqb, ne-eqb}
+use borrow.Author.Tests.{lt-ltb, le-leb, leb-false, lt-leb, eq-eqb, ne-eqb}
 use Rattle.units.specs.Units.{theParts}
 use Rattle.tables.specs.Block.{maxChoices, trains, size}
-use Rattle.tables.specs.Plans.{choicesOf, heldCosts}
+use Rattle.tables.specs.WellFormed.{Study}
+use Rattle.tables.specs.Plans.{choicesOf, shapeOf, heldCosts}
 use Rattle.tables.proofs.Study.{trains-range, pairs-range}
+use Rattle.rows.specs.Walled.{wall}
 use Rattle.rows.specs.Sums.{Steady, Carrying, Sums}
 use Rattle.rows.specs.Links.{sumsLength}
 use Rattle.rows.specs.Table.{endsFrom, trainsPlace, beginOf}
 use Rattle.rows.proofs.Rows.{steady-refl, summed-cong, summed-steady, end-sum, end-low}
 use Rattle.rows.proofs.Written.{kept}
 use Rattle.search.specs.declared.walk.Walk.{Walk}
-use Rattle.search.specs.Walk.{counted, wholePlan, dropped, noChoices, nothingTried}
+use Rattle.search.specs.Walk.{Decided, counted, wholePlan, dropped, noChoices, nothingTried}
 use Rattle.search.specs.Held.{unknown, walkOf, Alike, At, Trying, comesTo, tryOf, choicesFrom}
-use Rattle.search.proofs.Totals.{decided-next}
-use Rattle.search.proofs.Room.{decided-low, comes-low}
+use Rattle.search.proofs.Room.{comes-low}
+use Rattle.search.proofs.Walled.{comes-decided}
 use Rattle.search.proofs.Alike.{alike-next, try-alike, decided-alike}
 use Rattle.search.proofs.Tries.{more-left}
-use Rattle.search.proofs.Studies.{study-walkable, study-limited}
+use Rattle.search.proofs.Studies.{study-walkable, study-limited, walled-limited, study-walled}
 use Rattle.search.proofs.Coded.{added-row, try-spent, try-out, try-dropped, try-whole, try-opens}
 
 -- walks whose tries agree
@@ -36,7 +38,7 @@ and-false : (a : Bool) → a && false ≡ false
 and-false true = refl
 and-false false = refl
 
-module _ (b : List ℤ) (budget t a total left best : ℕ) (chosen plan : List ℕ) (most : left ≤ budget + 1) (low : total < unknown) where
+module _ (b : List ℤ) (budget t a total left best : ℕ) (chosen plan : List ℕ) (most : left ≤ budget + 1) (low : best ≤ wall) where
   -- spent, or nothing left
   pub held-out : left ≤ 1 → walkOf budget 0 best plan ≡ tryOf b budget t total chosen a (walkOf budget left best plan)
   unfolding walkOf
@@ -64,15 +66,20 @@ module _ (b : List ℤ) (budget t a total left best : ℕ) (chosen plan : List �
     unfolding walkOf
     held-dropped h = once ∙ sym (try-dropped b budget t a total chosen (walkOf budget left best plan) unspent within drops)
       where
-        drops : dropped (walkOf budget left best plan) total ≡ true
-        drops = rw (lt-ltb best unknown (omega arith)) (le-leb best total h)
+        -- at the wall, or at a known best
+        by : (r : Bool) → leb wall total ≡ r → dropped (walkOf budget left best plan) r total ≡ true
+        by true e = refl
+        by false e = let l : total < wall = leb-false wall total e in rw (lt-ltb best wall (omega arith)) (le-leb best total h)
+
+        drops : dropped (walkOf budget left best plan) (leb wall total) total ≡ true
+        drops = by (leb wall total) refl
 
     module _ (less : total < best) where
-      goes : dropped (walkOf budget left best plan) total ≡ false
+      goes : dropped (walkOf budget left best plan) (leb wall total) total ≡ false
       unfolding walkOf
-      goes = by (ltb best unknown) refl
+      goes = rw (lt-leb wall total (omega arith)) (by (ltb best wall) refl)
         where
-          by : (k : Bool) → ltb best unknown ≡ k → k && leb (cond k best 0) total ≡ false
+          by : (k : Bool) → ltb best wall ≡ k → k && leb (cond k best 0) total ≡ false
           by true e = lt-leb best total less
           by false e = refl
 
@@ -81,11 +88,11 @@ module _ (b : List ℤ) (budget t a total left best : ℕ) (chosen plan : List �
       held-whole h = better ∙ sym (try-whole b budget t a total chosen (walkOf budget left best plan) unspent within goes refl once h)
         where
           better : walkOf budget (left - 1) total (set chosen t a) ≡ wholePlan total (set chosen t a) (walkOf budget (left - 1) best plan)
-          better = rw (lt-ltb total unknown low)
+          better = rw (lt-ltb total wall (omega arith))
 
-      pub held-opens : {w : Walk} → t + 1 < trains b → w ≡ choicesFrom b budget (t + 1) 0 total (set chosen t a) (walkOf budget (left - 1) best plan)
+      pub held-opens : {w : Walk} → Study b → t + 1 < trains b → Decided (shapeOf b) (heldCosts b) (t + 1) total (set chosen t a) → w ≡ choicesFrom b budget (t + 1) 0 total (set chosen t a) (walkOf budget (left - 1) best plan)
           → w ≡ tryOf b budget t total chosen a (walkOf budget left best plan)
-      held-opens h e = e ∙ sym (try-opens b budget t a total chosen (walkOf budget left best plan) unspent within goes refl once h)
+      held-opens s h d e = e ∙ sym (try-opens b budget t a total chosen (walkOf budget left best plan) unspent within goes refl once s h d)
 
 -- nothing tried, and a try left for each of the budget
 pub held-start : (budget : ℕ) → walkOf budget (budget + 1) unknown noChoices ≡ nothingTried
@@ -93,10 +100,6 @@ unfolding walkOf
 held-start budget = same-tries (budget - (budget + 1 - 1)) 0 (eqb (budget + 1) 0) false false 0 noChoices (omega arith) (ne-eqb (budget + 1) 0 (λ e. omega arith))
 
 -- ---- where a try stands
-
-pub trying-low : {b : List ℤ} {l q : List ℕ} {t a total : ℕ} {chosen : List ℕ} → Trying b l q t a total chosen → total < unknown
-trying-low {b} {l} {q} {t} {a} {total} {chosen} p =
-    omega (arith, decided-low (study-walkable (p .study)) (study-limited (p .study)) (t + 1) total (set chosen t a) (omega (arith, p .train)) (p .decided), trains-range (p .study), p .train)
 
 module _ {b : List ℤ} {l q r : List ℕ} {t partial a sum : ℕ} {x y : List ℕ} (p : At b l q t partial x) (h : a < size b t) (e : sum ≡ comesTo b t partial x a)
     (k : Alike t (getD l trainsPlace 0) x y) (u : Steady (beginOf l t) q r) where
@@ -109,7 +112,9 @@ module _ {b : List ℤ} {l q r : List ℕ} {t partial a sum : ℕ} {x y : List �
         laid = p .laid;
         train = p .train;
         choice = h;
-        decided = rw e (decided-alike (study-walkable (p .study)) (heldCosts b) (t + 1) (trains b) _ _ _ g (decided-next (study-walkable (p .study)) (heldCosts b) t a partial x (p .train) h (p .decided)));
+        decided = λ low.
+            decided-alike (study-walkable (p .study)) (heldCosts b) (t + 1) (trains b) _ _ _ g
+            (rw e (comes-decided (study-walkable (p .study)) (study-walled (p .study)) t a partial x (p .train) h (p .decided) (omega (arith, e))));
         summed = summed-cong b (choicesOf x) (choicesOf y) r t (beginOf l t) (p .laid .begins t (omega (arith, p .train))) (k .before)
             (summed-steady b (choicesOf x) q r (beginOf l t) (trains-range (p .study) .1) u (p .summed));
       }
@@ -143,7 +148,7 @@ at-sums p r = record { whole = r .whole; each = λ a h. r .each a h ∙ at-row p
 pub at-room : {b : List ℤ} {l q r : List ℕ} {t partial : ℕ} {x : List ℕ} → At b l q t partial x → Steady (beginOf l t) q r → (a : ℕ) → a < maxChoices
     → partial + getD r (getD l (endsFrom + t) 0 + a) 0 < 2 ^ 63
 at-room {b} {l} {q} {r} {t} {partial} {x} p u a h =
-    omega (arith, at-row p u a h, comes-low (study-walkable (p .study)) (study-limited (p .study)) t a partial x (p .train) h (p .decided))
+    omega (arith, at-row p u a h, comes-low (study-walkable (p .study)) (study-limited (p .study)) (walled-limited (p .study)) t a partial x (p .train) h (p .decided))
 
 -- the train's row is one of the sums
 pub at-place : {b : List ℤ} {l q : List ℕ} {t partial : ℕ} {x : List ℕ} → At b l q t partial x → getD l (endsFrom + t) 0 + maxChoices ≤ sumsLength
@@ -151,13 +156,13 @@ at-place {b} {l} {q} {t} {partial} {x} p =
     let g = p .laid .begins t (omega (arith, p .train)) in
     omega (arith, end-low (p .study) t (beginOf l t) (getD l (endsFrom + t) 0) (p .train) g (p .laid .ends t (p .train)), g .high, pairs-range (p .study))
 
--- a choice that is written, before it is carried
-pub carrying-at : {b : List ℤ} {l q : List ℕ} {t a total : ℕ} {x : List ℕ} → Trying b l q t a total x → Carrying b l q t (set x t a)
-carrying-at {b} {l} {q} {t} {a} {total} {x} p =
+-- a choice that is written, before it is carried: with no forbidden entry
+pub carrying-at : {b : List ℤ} {l q : List ℕ} {t a total : ℕ} {x : List ℕ} → Trying b l q t a total x → total < wall → Carrying b l q t (set x t a)
+carrying-at {b} {l} {q} {t} {a} {total} {x} p low =
     record {
       study = p .study;
       laid = p .laid;
       train = p .train;
-      below = p .decided .below;
+      below = p .decided low .below;
       summed = summed-cong b (choicesOf x) (choicesOf (set x t a)) q t (beginOf l t) (p .laid .begins t (omega (arith, p .train))) (λ i h. sym (kept x t a i h)) (p .summed);
     }

@@ -1,9 +1,10 @@
 -- The partial total: what a train adds depends on the trains up to it only, each pair is counted once, at its second train, and so over all trains the partial total is the plan's total.
-use mathlib.Core.Path.{_≡_, refl, ap, ap₂}
-use mathlib.Core.Bool.{cond}
+use mathlib.Core.Path.{_≡_, refl, ap, ap₂, _∙_}
+use mathlib.Core.Bool.{false, cond}
 use mathlib.Core.List.{List}
-use mathlib.Core.Logic.{dite}
+use mathlib.Core.Logic.{⊎-elim, dite}
 use Prim.Native.Nat.{ℕ, zero, suc, _+_, _<_, _≤_}
+use native.Mathlib.Nat.{eq-or-lt-of-le}
 use native.Mathlib.Decide.{ℕ-discrete}
 use native.Mathlib.Omega.{arith}
 use lib.Dec.{eqb}
@@ -15,7 +16,8 @@ use Rattle.tables.specs.Block.{maxTrains}
 use Rattle.tables.specs.Plans.{Shape, Costs, choiceTotal, pairTotal, total, choicesOf}
 use Rattle.tables.proofs.Plans.{Shaped}
 use Rattle.rows.proofs.Written.{written, kept}
-use Rattle.search.specs.Walk.{pairAdded, added, partialTotal, Decided, noChoices}
+use Rattle.search.specs.Walk.{barred, pairAdded, added, partialTotal, Decided, noChoices}
+use Rattle.search.proofs.Barred.{barred-cong}
 
 -- what the laws of the walk ask of a shape besides: a list of choices has a place for each train
 pub record Walkable (s : Shape) : Type 0 where
@@ -61,17 +63,24 @@ module _ {s : Shape} (o : Walkable s) (c : Costs) where
       record {
         whole = refl;
         below = λ i h. absurd (omega arith);
+        permitted = λ i h. absurd (omega arith);
         total = omega (arith, sum-none (added s c (choicesOf noChoices)));
       }
 
   pub decided-next : (t a partial : ℕ) (chosen : List ℕ) → t < s .trains → a < s .size t → Decided s c t partial chosen
+      → barred s (choicesOf (set chosen t a)) t ≡ false
       → Decided s c (t + 1) (partial + added s c (choicesOf (set chosen t a)) t) (set chosen t a)
-  decided-next t a partial chosen h q d =
+  decided-next t a partial chosen h q d f =
       let y = choicesOf (set chosen t a) in
       let l : t < length chosen = omega (arith, d .whole, o .room) in
       record {
         whole = simp length-set (d .whole);
         below = written (λ i v. v < s .size i) chosen t a l (d .below) q;
+        permitted = λ i r.
+            ⊎-elim
+            (λ (e : i ≡ t). rw e f)
+            (λ (e : i < t). barred-cong (o .shaped) y (choicesOf chosen) i (λ j u. kept chosen t a j (omega arith)) ∙ d .permitted i e)
+            (eq-or-lt-of-le (omega arith));
         total = omega (arith, d .total, partial-more s c y t, partial-cong y (choicesOf chosen) t (kept chosen t a));
       }
 

@@ -1,16 +1,28 @@
--- Document 01, '06 search': the walk over plans, of a problem's shape and costs. A block's walk is that of its shape and its held costs.
+-- Document 01, '06 search', with document 02, change 5, 'a try that brings a forbidden entry in counts and is dropped': the walk over plans, of a problem's shape and costs. A block's walk is that of its shape and its held costs.
 use mathlib.Core.Path.{_≡_}
-use mathlib.Core.Bool.{Bool, true, false, cond, _&&_}
+use mathlib.Core.Bool.{Bool, true, false, cond, not, _&&_, _||_}
 use mathlib.Core.List.{List}
 use Prim.Native.Nat.{ℕ, zero, suc, _+_, _*_, _<_}
 use lib.Dec.{leb, eqb}
 use lib.IntN.{ℤ}
 use lib.ListN.{length, set, replicate}
 use Rattle.theory.specs.Sum.{sum}
+use Rattle.theory.specs.Range.{all}
 use Rattle.units.specs.Units.{theParts}
 use Rattle.tables.specs.Block.{maxTrains}
 use Rattle.tables.specs.Plans.{choicesOf, Shape, Costs, shapeOf, heldCosts}
 use Rattle.search.specs.declared.walk.Walk.{Walk}
+
+-- ---- what is forbidden
+
+module _ (s : Shape) where
+  -- pair k brings no forbidden entry in at train t, by the choices x of the trains up to it: t is not its second train, or the entry is open
+  abbrev pub entryPasses : (ℕ → ℕ) → ℕ → ℕ → Bool
+  entryPasses x t k = cond (eqb (s .second k) t) (s .entryOpen k (x (s .first k)) (x (s .second k))) true
+
+  -- train t 'brings a forbidden entry in': its choice is forbidden, or its entry with a train decided before
+  unfoldable pub barred : (ℕ → ℕ) → ℕ → Bool
+  barred x t = not (s .choiceOpen t (x t) && all (s .pairs) (entryPasses x t))
 
 -- ---- totals
 
@@ -27,10 +39,11 @@ module _ (s : Shape) (c : Costs) where
   unfoldable pub partialTotal : (ℕ → ℕ) → ℕ → ℕ
   partialTotal x t = c .constant + sum t (added x)
 
-  -- the first t trains are decided: each has one of its choices, and the partial total is theirs
+  -- the first t trains are decided: each has one of its choices, none brings a forbidden entry in, and the partial total is theirs
   pub record Decided (t partial : ℕ) (chosen : List ℕ) : Type 0 where
     pub whole : length chosen ≡ maxTrains
     pub below : (i : ℕ) → i < t → choicesOf chosen i < s .size i
+    pub permitted : (i : ℕ) → i < t → barred s (choicesOf chosen) i ≡ false
     pub total : partial ≡ partialTotal (choicesOf chosen) t
 
 -- ---- one try
@@ -52,19 +65,23 @@ abbrev pub pickWalk : Bool → (Walk → Walk) → (Walk → Walk) → Walk → 
 pickWalk true f g w = f w
 pickWalk false f g w = g w
 
--- 'If a best total is known and the partial total isn't below it, the try is dropped'
-abbrev pub dropped : Walk → ℕ → Bool
-dropped w total = w .found && leb (w .best .0) total
+-- 'If a best total is known and the partial total isn't below it'
+abbrev pub beaten : Walk → ℕ → Bool
+beaten w total = w .found && leb (w .best .0) total
 
--- a try within the budget: it is counted, and unless it is dropped the next train is opened
-abbrev pub countedTry : ℕ → (Walk → Walk) → Walk → Walk
-countedTry total next w = pickWalk (dropped w total) counted (λ v. next (counted v)) w
+-- 'the try is dropped'; so is 'a try that brings a forbidden entry in'
+abbrev pub dropped : Walk → Bool → ℕ → Bool
+dropped w bar total = bar || beaten w total
+
+-- a try within the budget: it 'counts', and unless it is dropped the next train is opened
+abbrev pub countedTry : Bool → ℕ → (Walk → Walk) → Walk → Walk
+countedTry bar total next w = pickWalk (dropped w bar total) counted (λ v. next (counted v)) w
 
 -- 'Before each try, if the count equals the budget, the walk is spent'; once spent it tries nothing more
-unfoldable pub oneTry : ℕ → ℕ → (Walk → Walk) → Walk → Walk
-oneTry budget total next w =
+unfoldable pub oneTry : ℕ → Bool → ℕ → (Walk → Walk) → Walk → Walk
+oneTry budget bar total next w =
     pickWalk (w .spent) (λ v. v)
-    (pickWalk (eqb (w .count) budget) markedSpent (countedTry total next)) w
+    (pickWalk (eqb (w .count) budget) markedSpent (countedTry bar total next)) w
 
 -- ---- trains and choices
 
@@ -87,7 +104,7 @@ module _ (s : Shape) (c : Costs) (budget : ℕ) where
   choiceTry next t partial chosen a =
       let with = set chosen t a in
       let total = partial + added s c (choicesOf with) t in
-      oneTry budget total (next total with)
+      oneTry budget (barred s (choicesOf with) t) total (next total with)
 
   -- 'Opening a train tries its choices', with `left` trains left from train t on; with none left the plan is whole
   unfoldable pub openedTrain : ℕ → ℕ → ℕ → List ℕ → Walk → Walk

@@ -21,8 +21,8 @@ pub struct Walk {
 }
 
 impl Walk {
-    // The total to beat while no plan is known: above every total, and so far below 2^64 that sums of it and of costs fit.
-    pub const UNKNOWN: u64 = 1 << 50;
+    // The total to beat while no plan is known: the wall, so that a try with a forbidden entry never beats it.
+    pub const UNKNOWN: u64 = table::WALL;
 
     // The tries left.
     fn tries(left: u64) -> u64
@@ -70,7 +70,7 @@ pub fn open_train(
     partial: Parts,
     left: u64,
 ) -> u64
-    requires { ⌜ Opened (now table) (now sums) t (partial .0) (now chosen) ⌝ }
+    requires { ⌜ Opened (now table) (now sums) t (partial .0) (now chosen) (now best) ⌝ }
     ensures { λ r. ⌜ OpenedTo (now (table .entry)) (now (sums .entry)) t (partial .0) (now (chosen .entry)) left (now (best .entry)) (now (plan .entry)) r (now (best .exit)) (now (plan .exit)) (now (chosen .exit)) (now (sums .exit)) ⌝ }
 {
     let row = sums::row_from(sums, table[table::ENDS_FROM + t] as usize, partial);
@@ -97,7 +97,7 @@ fn try_choice(
     total: Parts,
     left: u64,
 ) -> u64
-    requires { ⌜ Tried (now table) (now sums) t a (total .0) (now chosen) ⌝ }
+    requires { ⌜ Tried (now table) (now sums) t a (total .0) (now chosen) (now best) ⌝ }
     ensures { λ r. ⌜ TriedTo (now (table .entry)) (now (sums .entry)) t a (total .0) (now (chosen .entry)) left (now (best .entry)) (now (plan .entry)) r (now (best .exit)) (now (plan .exit)) (now (chosen .exit)) (now (sums .exit)) ⌝ }
 {
     if left <= 1 {

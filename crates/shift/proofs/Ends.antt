@@ -1,4 +1,4 @@
--- A shift is a chain of moves: what every rewriting keeps, it keeps (proofs/Rewritten.antt of `rewriting`).
+-- A shift is a chain of moves: what every rewriting keeps, it keeps (proofs/Rewritten.antt of `rewriting`, proofs/Held.antt of `weights`).
 use mathlib.Core.List.{List}
 use lib.IntN.{ℤ}
 use Rattle.tables.specs.WellFormed.{Study}

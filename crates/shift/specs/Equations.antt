@@ -1,4 +1,4 @@
--- Document 01, '03 shift', as its three equations: where c0, each choice and each entry of a pair end, by the numbers of the line alone. u i is u_i, and p n is the n-th of the
+-- Document 01, '03 shift', as its three equations: where c0, each permitted choice and each permitted entry of a pair end, by the numbers of the line alone. u i is u_i, and p n is the n-th of the
 -- moves, which come 'for each pair .. p_i,a by a, then p_j,b by b'.
 use mathlib.Core.List.{List}
 use Prim.Native.Nat.{ℕ, _+_}

@@ -39,7 +39,7 @@ unfoldable pub shifted : List ℤ → List ℤ → List ℤ → List ℤ
 shifted lifts moves b = pairsShifted moves (lifted lifts b)
 
 abbrev pub shiftOutcome : List ℤ → List ℤ → List ℤ → Verdict
-shiftOutcome lifts moves b = judged (shifted lifts moves b)
+shiftOutcome lifts moves b = judged b (shifted lifts moves b)
 
 abbrev pub shiftBlock : List ℤ → List ℤ → List ℤ → List ℤ
 shiftBlock lifts moves b = judgedBlock b (shifted lifts moves b)

@@ -27,7 +27,7 @@ pub fn shift(block: &mut [i64], lifts: &[i64], moves: &[i64]) -> Verdict
     judging::copy(&mut end, block);
     lift_trains(&mut end, lifts);
     shift_pairs(&mut end, moves);
-    judging::settle(block, &end)
+    judging::settle(block, &mut end)
 }
 
 // Lifts u_i from the choices of each train to the constant.

@@ -13,7 +13,7 @@ use Rattle.theory.specs.Range.{all}
 use Rattle.theory.proofs.Range.{both-true, bool-ext, all-true, all-split, all-rows, all-cong, pass-all}
 use Rattle.units.specs.Units.{scaleMin, scaleMax}
 use Rattle.tables.specs.Block.{blockLength, maxTrains, maxChoices, maxPairs, maxCost, maxParts, trainsPlace, scalePlace, pairsPlace, constantPlace, sizePlace, firstPlace, secondPlace, sizesFrom, firstsFrom, secondsFrom, loadedChoicesFrom, heldChoicesFrom, loadedEntriesFrom, heldEntriesFrom, entriesOfPair, at, figure, trains, pairs, size, first, second}
-use Rattle.tables.specs.WellFormed.{Limits, fromTo, within, usedIf, choiceUsed, entryUsed, headLimits, limitsAt, placeRight, placesRight, isZero, isFresh}
+use Rattle.tables.specs.WellFormed.{Limits, fromTo, costTo, within, usedIf, choiceUsed, entryUsed, headLimits, limitsAt, placeRight, placesRight, isZero, isFresh}
 use Rattle.tables.specs.Rows.{runWithin, rowWithin, rightAt, headRight, shapeRight, choicesUsed, choicesWithin, entriesUsed, pairWithin, entriesWithin}
 use Rattle.tables.proofs.Limits.{within-figure, choice-used, entry-used, entry-absent, limits-head, limits-size, limits-first, limits-second, limits-loaded-choices, limits-held-choices, limits-loaded-entries, limits-held-entries}
 
@@ -127,17 +127,17 @@ module _ (b : List ℤ) where
       )
 
   pub places-tables : length b ≡ blockLength → placesRight b
-      ≡ shapeRight b && choicesWithin b loadedChoicesFrom (fromTo 0 maxCost) && choicesWithin b heldChoicesFrom (fromTo 0 maxParts)
-      && entriesWithin b loadedEntriesFrom (fromTo 0 maxCost) && entriesWithin b heldEntriesFrom (fromTo 0 maxParts)
+      ≡ shapeRight b && choicesWithin b loadedChoicesFrom (costTo maxCost) && choicesWithin b heldChoicesFrom (costTo maxParts)
+      && entriesWithin b loadedEntriesFrom (costTo maxCost) && entriesWithin b heldEntriesFrom (costTo maxParts)
   unfolding placesRight
   places-tables e =
       rw (
         pass-all (placeRight b) (pos 0) b,
         e,
-        region heldEntriesFrom (maxPairs * entriesOfPair) (λ o. usedIf (entryUsed b o) (fromTo 0 maxParts)) (λ o h. limits-held-entries b o),
-        region loadedEntriesFrom (maxPairs * entriesOfPair) (λ o. usedIf (entryUsed b o) (fromTo 0 maxCost)) (limits-loaded-entries b),
-        region heldChoicesFrom (maxTrains * maxChoices) (λ o. usedIf (choiceUsed b o) (fromTo 0 maxParts)) (limits-held-choices b),
-        region loadedChoicesFrom (maxTrains * maxChoices) (λ o. usedIf (choiceUsed b o) (fromTo 0 maxCost)) (limits-loaded-choices b),
+        region heldEntriesFrom (maxPairs * entriesOfPair) (λ o. usedIf (entryUsed b o) (costTo maxParts)) (λ o h. limits-held-entries b o),
+        region loadedEntriesFrom (maxPairs * entriesOfPair) (λ o. usedIf (entryUsed b o) (costTo maxCost)) (limits-loaded-entries b),
+        region heldChoicesFrom (maxTrains * maxChoices) (λ o. usedIf (choiceUsed b o) (costTo maxParts)) (limits-held-choices b),
+        region loadedChoicesFrom (maxTrains * maxChoices) (λ o. usedIf (choiceUsed b o) (costTo maxCost)) (limits-loaded-choices b),
       )
 
 -- ---- the most that a place holds

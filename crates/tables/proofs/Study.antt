@@ -16,19 +16,24 @@ use Rattle.units.specs.Units.{scaleMin, scaleMax}
 use Rattle.tables.specs.declared.block.Block.{Block}
 use Rattle.tables.specs.declared.well_formed.NewBlock.the-variants.{Within as within-block, Outside as outside-block}
 use Rattle.tables.specs.Block.{blockLength, maxTrains, maxChoices, maxPairs, maxCost, maxParts, trainsPlace, constantPlace, sizePlace, firstPlace, secondPlace, entriesOfPair, loadedChoicesFrom, heldChoicesFrom, loadedEntriesFrom, heldEntriesFrom, loadedChoicePlace, heldChoicePlace, loadedEntryPlace, heldEntryPlace, at, nat, figure, trains, scale, pairs, constant, size, first, second, heldChoice, heldEntry}
-use Rattle.tables.specs.WellFormed.{Limits, fromTo, within, usedIf, choiceUsed, entryUsed, headLimits, limitsAt, placesRight, before, follows, pairRight, pairsRight, isZero, isFresh, holdsStudy, wellFormed, newBlock, Study}
-use Rattle.tables.proofs.Limits.{Within, within-figure, within-pos, choice-used, entry-used, limits-head, limits-size, limits-first, limits-second, limits-loaded-choices, limits-held-choices, limits-loaded-entries, limits-held-entries, shape-limits}
+use Rattle.tables.specs.WellFormed.{Limits, fromTo, costTo, within, isOpen, mate, mated, usedIf, choiceUsed, entryUsed, headLimits, limitsAt, placesRight, before, follows, pairRight, pairsRight, isZero, isFresh, holdsStudy, wellFormed, newBlock, Study}
+use Rattle.tables.proofs.Mates.{mated-mates, mates-mated, mate-open, mate-same}
+use Rattle.tables.proofs.Limits.{Within, within-figure, within-pos, within-closed, choice-used, entry-used, limits-head, limits-size, limits-first, limits-second, limits-loaded-choices, limits-held-choices, limits-loaded-entries, limits-held-entries, shape-limits, shape-closable}
 
 -- ---- the test and the facts
 
 pub holds-study : (b : List ℤ) → length b ≡ blockLength → holdsStudy b ≡ true → Study b
 unfolding holdsStudy placesRight pairsRight
 holds-study b l e =
-    let f = both-true (placesRight b) (pairsRight b) e in
+    let g = both-true (placesRight b && pairsRight b) (mated b) e in
+    let f = both-true (placesRight b) (pairsRight b) (g .0) in
+    let m = mated-mates b (g .1) in
     record {
       whole = l;
       places = λ p h. all-true (λ q. within (limitsAt b q) (at b q)) (length b) (sym (pass-all (λ q z. within (limitsAt b q) z) (pos 0) b) ∙ f .0) p (omega arith);
       ordered = all-true (pairRight b) (pairs b) (f .1);
+      choices-mated = m .0;
+      entries-mated = m .1;
     }
 
 -- a well-formed block that is not fresh holds a study
@@ -61,6 +66,7 @@ study-holds {b} s =
       pass-all (λ q z. within (limitsAt b q) z) (pos 0) b,
       all-intro (λ q. within (limitsAt b q) (at b q)) (length b) (λ p h. s .places p (omega (arith, s .whole))),
       all-intro (pairRight b) (pairs b) (s .ordered),
+      mates-mated b (s .choices-mated) (s .entries-mated),
     )
 
 or-true : (a : Bool) → a || true ≡ true
@@ -76,11 +82,15 @@ unfolding isZero
 zero-none (pos n) e = eqb-true n 0 e
 zero-none (negsuc n) e = refl
 
--- ---- each used place is a natural number within its limits
+-- ---- each place is within its limits, and but for forbidden entries a natural number
 
 module _ {b : List ℤ} (s : Study b) where
   pub study-place : (p : ℕ) → p < blockLength → Within (limitsAt b p) b p
   study-place p h = within-figure (limitsAt b p) b p (s .places p h)
+
+  -- n, s, m, c0, sizes and pairs are never below 0
+  pub shape-natural : (p : ℕ) → p < loadedChoicesFrom → at b p ≡ pos (figure b p)
+  shape-natural p h = study-place p (omega arith) .natural (shape-closable b p h)
 
   -- the place as it stands, given its limits
   at-limits : (l : Limits) (p : ℕ) → p < blockLength → limitsAt b p ≡ l → Within l b p
@@ -88,7 +98,7 @@ module _ {b : List ℤ} (s : Study b) where
 
   pub trains-range : (1 ≤ trains b) × (trains b ≤ maxTrains)
   unfolding headLimits
-  trains-range = let w = at-limits (fromTo 1 maxTrains) 0 (omega arith) (limits-head b 0 (omega arith)) in (w .low, w .high)
+  trains-range = let w = at-limits (fromTo 1 maxTrains) 0 (omega arith) (limits-head b 0 (omega arith)) in (w .low refl, w .high)
 
   -- it has a train, so it is not fresh
   pub study-not-fresh : isFresh b ≡ false
@@ -104,7 +114,7 @@ module _ {b : List ℤ} (s : Study b) where
 
   pub scale-range : (scaleMin ≤ scale b) × (scale b ≤ scaleMax)
   unfolding headLimits
-  scale-range = let w = at-limits (fromTo scaleMin scaleMax) 1 (omega arith) (limits-head b 1 (omega arith)) in (w .low, w .high)
+  scale-range = let w = at-limits (fromTo scaleMin scaleMax) 1 (omega arith) (limits-head b 1 (omega arith)) in (w .low refl, w .high)
 
   pub pairs-range : pairs b ≤ maxPairs
   unfolding headLimits
@@ -119,47 +129,57 @@ module _ {b : List ℤ} (s : Study b) where
   used t l p h e f = at-limits l p h (rw f at e)
 
   -- whether it is used or not, it is at most the limit
-  at-most : (t : Bool) (low high : ℕ) (p : ℕ) → p < blockLength → limitsAt b p ≡ usedIf t (fromTo low high) → figure b p ≤ high
-  at-most true low high p h e = at-limits (fromTo low high) p h e .high
-  at-most false low high p h e = omega (arith, at-limits (fromTo 0 0) p h e .high)
+  at-most : (t : Bool) (l : Limits) (p : ℕ) → p < blockLength → limitsAt b p ≡ usedIf t l → figure b p ≤ l .high
+  at-most true l p h e = at-limits l p h e .high
+  at-most false l p h e = omega (arith, at-limits (fromTo 0 0) p h e .high)
 
   pub size-range : (i : ℕ) → i < trains b → (1 ≤ size b i) × (size b i ≤ maxChoices)
   size-range i h =
       let w = used (ltb i (trains b)) (fromTo 1 maxChoices) (sizePlace i) (omega (arith, trains-range)) (limits-size b i (omega (arith, trains-range))) (lt-ltb i (trains b) h) in
-      (w .low, w .high)
+      (w .low refl, w .high)
 
   pub size-high : (i : ℕ) → i < maxTrains → size b i ≤ maxChoices
-  size-high i h = at-most (ltb i (trains b)) 1 maxChoices (sizePlace i) (omega arith) (limits-size b i h)
+  size-high i h = at-most (ltb i (trains b)) (fromTo 1 maxChoices) (sizePlace i) (omega arith) (limits-size b i h)
 
   pub held-choice-high : (i a : ℕ) → i < maxTrains → a < maxChoices → heldChoice b i a ≤ maxParts
   held-choice-high i a h q =
       let p = maxChoices * i + a in
-      at-most (choiceUsed b p) 0 maxParts (heldChoicePlace i a) (omega arith) (limits-held-choices b p (omega arith))
+      at-most (choiceUsed b p) (costTo maxParts) (heldChoicePlace i a) (omega arith) (limits-held-choices b p (omega arith))
 
   pub held-entry-high : (k a c : ℕ) → k < maxPairs → a < maxChoices → c < maxChoices → heldEntry b k a c ≤ maxParts
   held-entry-high k a c h p q =
       let i = entriesOfPair * k + (maxChoices * a + c) in
-      at-most (entryUsed b i) 0 maxParts (heldEntryPlace k a c) (omega arith) (limits-held-entries b i)
+      at-most (entryUsed b i) (costTo maxParts) (heldEntryPlace k a c) (omega arith) (limits-held-entries b i)
 
   pub first-high : (k : ℕ) → k < maxPairs → first b k < maxTrains
-  first-high k h = omega (arith, at-most (ltb k (pairs b)) 0 (maxTrains - 1) (firstPlace k) (omega arith) (limits-first b k h))
+  first-high k h = omega (arith, at-most (ltb k (pairs b)) (fromTo 0 (maxTrains - 1)) (firstPlace k) (omega arith) (limits-first b k h))
 
   pub second-high : (k : ℕ) → k < maxPairs → second b k < maxTrains
-  second-high k h = omega (arith, at-most (ltb k (pairs b)) 0 (maxTrains - 1) (secondPlace k) (omega arith) (limits-second b k h))
+  second-high k h = omega (arith, at-most (ltb k (pairs b)) (fromTo 0 (maxTrains - 1)) (secondPlace k) (omega arith) (limits-second b k h))
 
   module _ (i a : ℕ) (h : i < trains b) (q : a < size b i) where
     here : choiceUsed b (maxChoices * i + a) ≡ true
     here = choice-used b i a (omega (arith, size-range i h)) ∙ rw (lt-ltb i (trains b) h, lt-ltb a (size b i) q)
 
-    pub loaded-choice-range : Within (fromTo 0 maxCost) b (loadedChoicePlace i a)
+    pub loaded-choice-range : Within (costTo maxCost) b (loadedChoicePlace i a)
     loaded-choice-range =
-        used (choiceUsed b (maxChoices * i + a)) (fromTo 0 maxCost) (loadedChoicePlace i a) (omega (arith, trains-range, size-range i h))
+        used (choiceUsed b (maxChoices * i + a)) (costTo maxCost) (loadedChoicePlace i a) (omega (arith, trains-range, size-range i h))
         (limits-loaded-choices b (maxChoices * i + a) (omega (arith, trains-range, size-range i h))) here
 
-    pub held-choice-range : Within (fromTo 0 maxParts) b (heldChoicePlace i a)
+    pub held-choice-range : Within (costTo maxParts) b (heldChoicePlace i a)
     held-choice-range =
-        used (choiceUsed b (maxChoices * i + a)) (fromTo 0 maxParts) (heldChoicePlace i a) (omega (arith, trains-range, size-range i h))
+        used (choiceUsed b (maxChoices * i + a)) (costTo maxParts) (heldChoicePlace i a) (omega (arith, trains-range, size-range i h))
         (limits-held-choices b (maxChoices * i + a) (omega (arith, trains-range, size-range i h))) here
+
+  -- ---- what is forbidden
+
+  -- a closed place holds −1
+  pub closed-is : (p : ℕ) → p < blockLength → isOpen (at b p) ≡ false → at b p ≡ negsuc 0
+  closed-is p h f = within-closed (limitsAt b p) (at b p) (s .places p h) f
+
+  -- closed in H is closed in T, and back
+  pub choice-open : (i a : ℕ) → i < trains b → a < size b i → isOpen (at b (loadedChoicePlace i a)) ≡ isOpen (at b (heldChoicePlace i a))
+  choice-open i a h q = mate-open _ _ (s .choices-mated (maxChoices * i + a) (omega (arith, trains-range, size-range i h)))
 
   -- ---- the pairs
 
@@ -189,14 +209,17 @@ module _ {b : List ℤ} (s : Study b) where
           entry-used b k a c (small .1 .0) (small .1 .1)
           ∙ rw (lt-ltb k (pairs b) h, lt-ltb a (size b (first b k)) p, lt-ltb c (size b (second b k)) q)
 
-      pub loaded-entry-range : Within (fromTo 0 maxCost) b (loadedEntryPlace k a c)
+      pub loaded-entry-range : Within (costTo maxCost) b (loadedEntryPlace k a c)
       loaded-entry-range =
-          used (entryUsed b (entriesOfPair * k + (maxChoices * a + c))) (fromTo 0 maxCost) (loadedEntryPlace k a c) (omega (arith, small))
+          used (entryUsed b (entriesOfPair * k + (maxChoices * a + c))) (costTo maxCost) (loadedEntryPlace k a c) (omega (arith, small))
           (limits-loaded-entries b (entriesOfPair * k + (maxChoices * a + c)) (omega (arith, small))) entry-here
 
-      pub held-entry-range : Within (fromTo 0 maxParts) b (heldEntryPlace k a c)
+      pub entry-open : isOpen (at b (loadedEntryPlace k a c)) ≡ isOpen (at b (heldEntryPlace k a c))
+      entry-open = mate-open _ _ (s .entries-mated (entriesOfPair * k + (maxChoices * a + c)) (omega (arith, small)))
+
+      pub held-entry-range : Within (costTo maxParts) b (heldEntryPlace k a c)
       held-entry-range =
-          used (entryUsed b (entriesOfPair * k + (maxChoices * a + c))) (fromTo 0 maxParts) (heldEntryPlace k a c) (omega (arith, small))
+          used (entryUsed b (entriesOfPair * k + (maxChoices * a + c))) (costTo maxParts) (heldEntryPlace k a c) (omega (arith, small))
           (limits-held-entries b (entriesOfPair * k + (maxChoices * a + c))) entry-here
 
 -- the order of pairs
@@ -256,6 +279,10 @@ pub record SameShape (b c : List ℤ) : Type 0 where
   pub whole : length c ≡ length b
   pub kept : (p : ℕ) → p < loadedChoicesFrom → p ≢ constantPlace → at c p ≡ at b p
 
+-- c is open where b is, in both tables
+abbrev pub SameOpen : List ℤ → List ℤ → Type 0
+SameOpen b c = (p : ℕ) → loadedChoicesFrom ≤ p → isOpen (at c p) ≡ isOpen (at b p)
+
 pub figure-at : (b : List ℤ) (p v : ℕ) → at b p ≡ pos v → figure b p ≡ v
 unfolding figure
 figure-at b p v e = ap nat e
@@ -314,30 +341,33 @@ module _ {b c : List ℤ} (e : SameShape b c) where
         in-shape : p < loadedChoicesFrom → limitsAt c p ≡ limitsAt b p
         in-shape q = shape-limits c b p q same-trains same-pairs
 
-        by-choices : (from high : ℕ) → ((d : List ℤ) (o : ℕ) → o < maxTrains * maxChoices → limitsAt d (from + o) ≡ usedIf (choiceUsed d o) (fromTo 0 high))
+        by-choices : (from high : ℕ) → ((d : List ℤ) (o : ℕ) → o < maxTrains * maxChoices → limitsAt d (from + o) ≡ usedIf (choiceUsed d o) (costTo high))
             → from ≤ p → p < from + maxTrains * maxChoices → limitsAt c p ≡ limitsAt b p
         by-choices from high law l q =
             let d : from + (p - from) ≡ p = omega arith in
-            rw d at (law c (p - from) (omega arith) ∙ ap (λ (t : Bool). usedIf t (fromTo 0 high)) (same-choice-used (p - from) (omega arith)) ∙ sym (law b (p - from) (omega arith)))
+            rw d at (law c (p - from) (omega arith) ∙ ap (λ (t : Bool). usedIf t (costTo high)) (same-choice-used (p - from) (omega arith)) ∙ sym (law b (p - from) (omega arith)))
 
-        by-entries : (from high : ℕ) → ((d : List ℤ) (o : ℕ) → o < maxPairs * entriesOfPair → limitsAt d (from + o) ≡ usedIf (entryUsed d o) (fromTo 0 high))
+        by-entries : (from high : ℕ) → ((d : List ℤ) (o : ℕ) → o < maxPairs * entriesOfPair → limitsAt d (from + o) ≡ usedIf (entryUsed d o) (costTo high))
             → from ≤ p → p < from + maxPairs * entriesOfPair → limitsAt c p ≡ limitsAt b p
         by-entries from high law l q =
             let d : from + (p - from) ≡ p = omega arith in
-            rw d at (law c (p - from) (omega arith) ∙ ap (λ (t : Bool). usedIf t (fromTo 0 high)) (same-entry-used (p - from) (omega arith)) ∙ sym (law b (p - from) (omega arith)))
+            rw d at (law c (p - from) (omega arith) ∙ ap (λ (t : Bool). usedIf t (costTo high)) (same-entry-used (p - from) (omega arith)) ∙ sym (law b (p - from) (omega arith)))
 
     same-pair-right : (k : ℕ) → k < maxPairs → pairRight c k ≡ pairRight b k
     unfolding pairRight follows
     same-pair-right k h =
         rw (same-first k h, same-second k h, same-trains, same-first (k - 1) (omega arith), same-second (k - 1) (omega arith))
 
-    -- a block of the same shape whose costs and constant are within their limits holds a study
-    pub study-from : ((p : ℕ) → p < blockLength → (p ≡ constantPlace) ⊎ (loadedChoicesFrom ≤ p) → within (limitsAt b p) (at c p) ≡ true) → Study c
-    study-from costs =
+    -- a block of the same shape, open where b is, whose costs and constant are within their limits, holds a study
+    pub study-from : ((p : ℕ) → p < blockLength → (p ≡ constantPlace) ⊎ (loadedChoicesFrom ≤ p) → within (limitsAt b p) (at c p) ≡ true)
+        → SameOpen b c → Study c
+    study-from costs opens =
         record {
           whole = e .whole ∙ s .whole;
           places = λ p h. rw (same-limits p h) (at-place p h);
           ordered = λ k h. same-pair-right k (omega (arith, pairs-range s, same-pairs)) ∙ s .ordered k (omega (arith, same-pairs));
+          choices-mated = λ o h. mate-same _ _ _ _ (opens (loadedChoicesFrom + o) (omega arith)) (opens (heldChoicesFrom + o) (omega arith)) ∙ s .choices-mated o h;
+          entries-mated = λ o h. mate-same _ _ _ _ (opens (loadedEntriesFrom + o) (omega arith)) (opens (heldEntriesFrom + o) (omega arith)) ∙ s .entries-mated o h;
         }
       where
         at-place : (p : ℕ) → p < blockLength → within (limitsAt b p) (at c p) ≡ true
@@ -353,11 +383,20 @@ put-same-shape b p z w =
       kept = λ q h n. getD-set-other b p q z (pos 0) (λ e. ⊎-elim (λ (f : p ≡ constantPlace). n (e ∙ f)) (λ (f : loadedChoicesFrom ≤ p). omega arith) w);
     }
 
--- writing a cost or the constant within its limits keeps a study
-pub put-study : {b : List ℤ} → Study b → (p v : ℕ) → p < blockLength → (p ≡ constantPlace) ⊎ (loadedChoicesFrom ≤ p)
+open-pos : (v : ℕ) → isOpen (pos v) ≡ true
+unfolding isOpen
+open-pos v = refl
+
+-- writing an open cost or the constant within its limits keeps a study
+pub put-study : {b : List ℤ} → Study b → (p v : ℕ) → p < blockLength → (p ≡ constantPlace) ⊎ (loadedChoicesFrom ≤ p) → isOpen (at b p) ≡ true
     → limitsAt b p .low ≤ v → v ≤ limitsAt b p .high → Study (set b p (pos v))
-put-study {b} s p v h w low high = study-from (put-same-shape b p (pos v) w) s (λ q l _. at-place q l (ℕ-discrete q p))
+put-study {b} s p v h w o low high =
+    study-from (put-same-shape b p (pos v) w) s (λ q l _. at-place q l (ℕ-discrete q p)) (λ q l. stays q (ℕ-discrete q p))
   where
+    stays : (q : ℕ) → Dec (q ≡ p) → isOpen (at (set b p (pos v)) q) ≡ isOpen (at b q)
+    stays q (yes e) = ap isOpen (ap (at (set b p (pos v))) e ∙ getD-set-same b p (pos v) (pos 0) (omega (arith, s .whole))) ∙ open-pos v ∙ sym (ap (λ (r : ℕ). isOpen (at b r)) e ∙ o)
+    stays q (no n) = ap isOpen (getD-set-other b p q (pos v) (pos 0) n)
+
     at-place : (q : ℕ) → q < blockLength → Dec (q ≡ p) → within (limitsAt b q) (at (set b p (pos v)) q) ≡ true
     at-place q l (yes e) = rw (e, getD-set-same b p (pos v) (pos 0) (omega (arith, s .whole))) (within-pos (limitsAt b p) v low high)
     at-place q l (no n) = rw (getD-set-other b p q (pos v) (pos 0) n) (s .places q l)

@@ -116,7 +116,7 @@ abbrev pub nat : ℤ → ℕ
 nat (pos n) = n
 nat (negsuc n) = 0
 
--- the number at place p as a natural one, 0 where it is negative. A well-formed block has no negative number
+-- the number at place p as a natural one, 0 where it is negative. In a well-formed block only −1 is, at forbidden entries
 unfoldable pub figure : List ℤ → ℕ → ℕ
 figure b p = nat (at b p)
 

@@ -6,11 +6,15 @@ use lib.Dec.{ltb}
 use lib.IntN.{ℤ}
 use Rattle.theory.specs.Range.{all}
 use Rattle.tables.specs.Block.{maxTrains, maxChoices, maxPairs, entriesOfPair, loadedChoicesFrom, at, trains, pairs, size, first, second}
-use Rattle.tables.specs.WellFormed.{Limits, within, usedIf, choiceUsed, entryUsed, placeRight}
+use Rattle.tables.specs.WellFormed.{Limits, within, mate, usedIf, choiceUsed, entryUsed, placeRight}
 
 -- `count` places from `from` on are within the limits
 abbrev pub runWithin : List ℤ → ℕ → ℕ → Limits → Bool
 runWithin b from count l = all count (λ k. within l (at b (from + k)))
+
+-- `count` places from `from` on and from `to` on are mates
+abbrev pub runMated : List ℤ → ℕ → ℕ → ℕ → Bool
+runMated b from to count = all count (λ k. mate (at b (from + k)) (at b (to + k)))
 
 -- of `width` places from `from` on the first `used` are within the limits, and the others are unused
 abbrev pub rowWithin : List ℤ → ℕ → ℕ → ℕ → Limits → Bool

@@ -4,7 +4,8 @@ ghost use Prim.Native.Nat.{_+_, _*_, _<_, _≤_, _^_};
 ghost use lib.IntN.{pos};
 ghost use lib.ListN.{length, set};
 ghost use Rattle.units.specs.Units.{scaleMin, scaleMax};
-ghost use Rattle.tables.specs.Block.{blockLength, entriesOfPair, maxTrains, maxChoices, maxPairs, trainsPlace, scalePlace, pairsPlace, sizePlace, firstPlace, secondPlace, choicePlace, entryPlace, figure, loadedChoicePlace, heldChoicePlace, trains, scale, pairs, constant, size, first, second, loadedChoice, heldChoice, loadedEntry, heldEntry};
+ghost use Rattle.tables.specs.Block.{blockLength, entriesOfPair, maxTrains, maxChoices, maxPairs, trainsPlace, scalePlace, pairsPlace, sizePlace, firstPlace, secondPlace, choicePlace, entryPlace, at, figure, loadedChoicePlace, heldChoicePlace, trains, scale, pairs, constant, size, first, second, loadedChoice, heldChoice, loadedEntry, heldEntry};
+ghost use Rattle.tables.specs.WellFormed.{isOpen};
 use crate::places;
 use units::Parts;
 use units::Points;
@@ -26,6 +27,8 @@ impl Block {
     pub const PAIRS: usize = 48;
     // The highest loaded cost.
     pub const COST: Points = Points::HIGHEST;
+    // What a load gives as the cost of a forbidden entry.
+    pub const FORBIDDEN: u64 = 16777215;
     // The highest held cost and the highest constant: L.
     pub const PARTS: Parts = Parts::HIGHEST;
     // Where n stands.
@@ -140,6 +143,14 @@ pub fn second(b: &[i64], k: usize) -> usize
     ensures { λ r. ⌜ r ≡ second (now (b .entry)) k ⌝ }
 {
     places::get(b, Block::SECONDS_FROM + k) as usize
+}
+
+// Whether choice a of train i is open.
+pub fn choice_open(b: &[i64], i: usize, a: usize) -> bool
+    requires { ⌜ (length (now b) ≡ blockLength) × (i < maxTrains) × (a < maxChoices) ⌝ }
+    ensures { λ r. ⌜ r ≡ isOpen (at (now (b .entry)) (loadedChoicePlace i a)) ⌝ }
+{
+    places::is_open(b, choice_place(Block::LOADED_CHOICES_FROM, i, a))
 }
 
 // H of choice a of train i.

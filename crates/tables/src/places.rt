@@ -1,11 +1,12 @@
-// Places of a lent block. The block is signed, and above these functions all numbers are natural.
+// Places of a lent block. The block is signed: −1 is a forbidden entry, and above these functions all other numbers are natural.
 ghost use mathlib.Core.Path.{_≡_};
 ghost use Prim.Native.Nat.{_+_, _<_, _≤_, _^_};
-ghost use lib.IntN.{pos};
+ghost use lib.Dec.{eqb};
+ghost use lib.IntN.{pos, negsuc};
 ghost use lib.ListN.{length, set};
 ghost use Rattle.tables.specs.Block.{at, figure};
-ghost use Rattle.tables.specs.WellFormed.{fromTo, within};
-ghost use Rattle.tables.specs.Rows.{runWithin};
+ghost use Rattle.tables.specs.WellFormed.{limits, fromTo, within, isOpen, mate};
+ghost use Rattle.tables.specs.Rows.{runWithin, runMated};
 use units::Parts;
 use units::Points;
 
@@ -70,20 +71,63 @@ pub fn put_parts(b: &mut [i64], p: usize, v: Parts)
     put(b, p, v.number());
 }
 
-// Whether the number at place p is from low to high.
-pub fn is_within(b: &[i64], p: usize, low: u64, high: u64) -> bool
+// Stores −1 at place p: what stands there is forbidden.
+pub fn close(b: &mut [i64], p: usize)
     requires { ⌜ p < length (now b) ⌝ }
-    ensures { λ r. ⌜ r ≡ within (fromTo low high) (at (now (b .entry)) p) ⌝ }
+    ensures { λ _. ⌜ now (b .exit) ≡ set (now (b .entry)) p (negsuc 0) ⌝ }
+{
+    b[p] = -1;
+}
+
+// Whether the number at place p is from low to high, or −1 where it may be.
+pub fn is_within(b: &[i64], p: usize, low: u64, high: u64, closable: bool) -> bool
+    requires { ⌜ p < length (now b) ⌝ }
+    ensures { λ r. ⌜ r ≡ within (limits low high closable) (at (now (b .entry)) p) ⌝ }
 {
     let z = b[p];
     if z < 0 {
-        return false;
+        if z < -1 {
+            return false;
+        }
+        return closable;
     }
     let n = z as u64;
     if n < low {
         return false;
     }
     n <= high
+}
+
+// Whether the number at place p is not below 0.
+pub fn is_open(b: &[i64], p: usize) -> bool
+    requires { ⌜ p < length (now b) ⌝ }
+    ensures { λ r. ⌜ r ≡ isOpen (at (now (b .entry)) p) ⌝ }
+{
+    let z = b[p];
+    if z < 0 {
+        return false;
+    }
+    true
+}
+
+// Whether the numbers at places p and q are both below 0, or neither is.
+pub fn are_mates(b: &[i64], p: usize, q: usize) -> bool
+    requires { ⌜ (p < length (now b)) × (q < length (now b)) ⌝ }
+    ensures { λ r. ⌜ r ≡ mate (at (now (b .entry)) p) (at (now (b .entry)) q) ⌝ }
+{
+    let other = is_open(b, q);
+    if is_open(b, p) {
+        return other;
+    }
+    !other
+}
+
+// 0 where the numbers at places p and q are both below 0, or neither is, and else 1.
+pub fn apart(b: &[i64], p: usize, q: usize) -> u64
+    requires { ⌜ (p < length (now b)) × (q < length (now b)) ⌝ }
+    ensures { λ r. ⌜ eqb r 0 ≡ mate (at (now (b .entry)) p) (at (now (b .entry)) q) ⌝ }
+{
+    if are_mates(b, p, q) { 0 } else { 1 }
 }
 
 // Whether `count` places from `from` on are 0. Their bits are joined, and no place ends the loop, so that several places can be read at once.
@@ -98,4 +142,18 @@ pub fn all_zero(b: &[i64], from: usize, count: usize) -> bool
         k += 1;
     }
     joined == 0
+}
+
+// Whether `count` places from `from` on and from `to` on are mates. No place ends the loop, so that several places can be read at once.
+pub fn run_mated(b: &[i64], from: usize, to: usize, count: usize) -> bool
+    requires { ⌜ (from + count ≤ length (now b)) × (to + count ≤ length (now b)) ⌝ }
+    ensures { λ r. ⌜ r ≡ runMated (now (b .entry)) from to count ⌝ }
+{
+    let mut parted = 0;
+    let mut k = 0;
+    while k < count {
+        parted = parted | apart(b, from + k, to + k);
+        k += 1;
+    }
+    parted == 0
 }

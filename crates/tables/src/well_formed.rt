@@ -4,7 +4,7 @@ ghost use mathlib.Core.Bool.{true};
 ghost use Prim.Native.Nat.{_+_, _*_, _<_, _≤_};
 ghost use lib.ListN.{length};
 ghost use Rattle.tables.specs.Block.{blockLength, maxTrains, maxChoices, maxPairs, entriesOfPair, pairs};
-ghost use Rattle.tables.specs.WellFormed.{fromTo, before, follows, pairRight, pairsRight, isFresh, holdsStudy, newBlock};
+ghost use Rattle.tables.specs.WellFormed.{limits, fromTo, costTo, placesRight, mated, before, follows, pairRight, pairsRight, isFresh, holdsStudy, newBlock};
 ghost use Rattle.tables.specs.Rows.{runWithin, rowWithin, headRight, shapeRight, choicesUsed, choicesWithin, entriesUsed, pairWithin, entriesWithin};
 use crate::block;
 use crate::block::Block;
@@ -43,7 +43,7 @@ fn is_fresh(block: &[i64]) -> bool
     if block.len() == 0 {
         return true;
     }
-    if !places::is_within(block, 0, 0, 0) {
+    if !places::is_within(block, 0, 0, 0, false) {
         return false;
     }
     places::all_zero(block, 0, block.len())
@@ -69,17 +69,43 @@ pub fn holds_study(b: &[i64]) -> bool
     if !entries_within(b, Block::LOADED_ENTRIES_FROM, Block::COST.number()) {
         return false;
     }
-    entries_within(b, Block::HELD_ENTRIES_FROM, Block::PARTS.number())
+    if !entries_within(b, Block::HELD_ENTRIES_FROM, Block::PARTS.number()) {
+        return false;
+    }
+    mated(b)
 }
 
-// Whether `count` places from `from` on are from low to high.
-fn run_within(b: &[i64], from: usize, count: usize, low: u64, high: u64) -> bool
+// Whether H and T are below 0 at the same entries. Unused places are 0, so that only used trains and pairs are looked at.
+fn mated(b: &[i64]) -> bool
+    requires { ⌜ (length (now b) ≡ blockLength) × (placesRight (now b) ≡ true) ⌝ }
+    ensures { λ r. ⌜ r ≡ mated (now (b .entry)) ⌝ }
+{
+    let choices = Block::CHOICES * block::trains(b);
+    if !places::run_mated(
+        b,
+        Block::LOADED_CHOICES_FROM,
+        Block::HELD_CHOICES_FROM,
+        choices,
+    ) {
+        return false;
+    }
+    let entries = Block::ENTRIES * block::pairs(b);
+    places::run_mated(
+        b,
+        Block::LOADED_ENTRIES_FROM,
+        Block::HELD_ENTRIES_FROM,
+        entries,
+    )
+}
+
+// Whether `count` places from `from` on are from low to high, or −1 where they may be.
+fn run_within(b: &[i64], from: usize, count: usize, low: u64, high: u64, closable: bool) -> bool
     requires { ⌜ from + count ≤ length (now b) ⌝ }
-    ensures { λ r. ⌜ r ≡ runWithin (now (b .entry)) from count (fromTo low high) ⌝ }
+    ensures { λ r. ⌜ r ≡ runWithin (now (b .entry)) from count (limits low high closable) ⌝ }
 {
     let mut k = 0;
     while k < count {
-        if !places::is_within(b, from + k, low, high) {
+        if !places::is_within(b, from + k, low, high, closable) {
             return false;
         }
         k += 1;
@@ -87,12 +113,20 @@ fn run_within(b: &[i64], from: usize, count: usize, low: u64, high: u64) -> bool
     true
 }
 
-// Whether of `width` places from `from` on the first `used` are from low to high, and the others 0.
-fn row_within(b: &[i64], from: usize, width: usize, used: usize, low: u64, high: u64) -> bool
+// Whether of `width` places from `from` on the first `used` are from low to high, or −1 where they may be, and the others 0.
+fn row_within(
+    b: &[i64],
+    from: usize,
+    width: usize,
+    used: usize,
+    low: u64,
+    high: u64,
+    closable: bool,
+) -> bool
     requires { ⌜ (from + width ≤ length (now b)) × (used ≤ width) ⌝ }
-    ensures { λ r. ⌜ r ≡ rowWithin (now (b .entry)) from width used (fromTo low high) ⌝ }
+    ensures { λ r. ⌜ r ≡ rowWithin (now (b .entry)) from width used (limits low high closable) ⌝ }
 {
-    if !run_within(b, from, used, low, high) {
+    if !run_within(b, from, used, low, high, closable) {
         return false;
     }
     places::all_zero(b, from + used, width - used)
@@ -103,16 +137,16 @@ fn head_right(b: &[i64]) -> bool
     requires { ⌜ length (now b) ≡ blockLength ⌝ }
     ensures { λ r. ⌜ r ≡ headRight (now (b .entry)) ⌝ }
 {
-    if !places::is_within(b, Block::TRAINS_PLACE, 1, Block::TRAINS as u64) {
+    if !places::is_within(b, Block::TRAINS_PLACE, 1, Block::TRAINS as u64, false) {
         return false;
     }
-    if !places::is_within(b, Block::SCALE_PLACE, Scale::MIN, Scale::MAX) {
+    if !places::is_within(b, Block::SCALE_PLACE, Scale::MIN, Scale::MAX, false) {
         return false;
     }
-    if !places::is_within(b, Block::PAIRS_PLACE, 0, Block::PAIRS as u64) {
+    if !places::is_within(b, Block::PAIRS_PLACE, 0, Block::PAIRS as u64, false) {
         return false;
     }
-    places::is_within(b, Block::CONSTANT_PLACE, 0, Block::PARTS.number())
+    places::is_within(b, Block::CONSTANT_PLACE, 0, Block::PARTS.number(), false)
 }
 
 // Whether the head, the sizes and the pairs' trains are within their limits.
@@ -131,6 +165,7 @@ fn shape_right(b: &[i64]) -> bool
         n,
         1,
         Block::CHOICES as u64,
+        false,
     ) {
         return false;
     }
@@ -142,6 +177,7 @@ fn shape_right(b: &[i64]) -> bool
         m,
         0,
         Block::TRAINS as u64 - 1,
+        false,
     ) {
         return false;
     }
@@ -152,6 +188,7 @@ fn shape_right(b: &[i64]) -> bool
         m,
         0,
         Block::TRAINS as u64 - 1,
+        false,
     )
 }
 
@@ -230,7 +267,7 @@ fn choices_used(b: &[i64], i: usize) -> usize
 // Whether the table of choices that begins at `from` is from 0 to high, and 0 where it is unused.
 fn choices_within(b: &[i64], from: usize, high: u64) -> bool
     requires { ⌜ (length (now b) ≡ blockLength) × (from + maxTrains * maxChoices ≤ blockLength) × (shapeRight (now b) ≡ true) ⌝ }
-    ensures { λ r. ⌜ r ≡ choicesWithin (now (b .entry)) from (fromTo 0 high) ⌝ }
+    ensures { λ r. ⌜ r ≡ choicesWithin (now (b .entry)) from (costTo high) ⌝ }
 {
     let mut i = 0;
     while i < Block::TRAINS {
@@ -241,6 +278,7 @@ fn choices_within(b: &[i64], from: usize, high: u64) -> bool
             choices_used(b, i),
             0,
             high,
+            true,
         ) {
             return false;
         }
@@ -266,7 +304,7 @@ fn entries_used(b: &[i64], k: usize, a: usize) -> usize
 // Whether the places of pair k in the table that begins at `from` are from 0 to high, and 0 where they are unused.
 fn pair_within(b: &[i64], from: usize, k: usize, high: u64) -> bool
     requires { ⌜ (length (now b) ≡ blockLength) × (from + maxPairs * entriesOfPair ≤ blockLength) × (k < maxPairs) × (shapeRight (now b) ≡ true) ⌝ }
-    ensures { λ r. ⌜ r ≡ pairWithin (now (b .entry)) from k (fromTo 0 high) ⌝ }
+    ensures { λ r. ⌜ r ≡ pairWithin (now (b .entry)) from k (costTo high) ⌝ }
 {
     if k >= block::pairs(b) {
         return places::all_zero(b, from + Block::ENTRIES * k, Block::ENTRIES);
@@ -280,6 +318,7 @@ fn pair_within(b: &[i64], from: usize, k: usize, high: u64) -> bool
             entries_used(b, k, a),
             0,
             high,
+            true,
         ) {
             return false;
         }
@@ -291,7 +330,7 @@ fn pair_within(b: &[i64], from: usize, k: usize, high: u64) -> bool
 // Whether the table of pairs that begins at `from` is from 0 to high, and 0 where it is unused.
 fn entries_within(b: &[i64], from: usize, high: u64) -> bool
     requires { ⌜ (length (now b) ≡ blockLength) × (from + maxPairs * entriesOfPair ≤ blockLength) × (shapeRight (now b) ≡ true) ⌝ }
-    ensures { λ r. ⌜ r ≡ entriesWithin (now (b .entry)) from (fromTo 0 high) ⌝ }
+    ensures { λ r. ⌜ r ≡ entriesWithin (now (b .entry)) from (costTo high) ⌝ }
 {
     let mut k = 0;
     while k < Block::PAIRS {

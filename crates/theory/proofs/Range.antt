@@ -85,7 +85,7 @@ all-cong zero p q h = refl
 all-cong (suc n) p q h = ap₂ _&&_ (all-cong n p q (λ k l. h k (omega arith))) (h n (omega arith))
 
 -- the first place apart
-all-head : (p : ℕ → Bool) (n : ℕ) → all (suc n) p ≡ p 0 && all n (λ k. p (k + 1))
+pub all-head : (p : ℕ → Bool) (n : ℕ) → all (suc n) p ≡ p 0 && all n (λ k. p (k + 1))
 unfolding all
 all-head p zero = sym (and-true (p 0))
 all-head p (suc n) =

@@ -1,38 +1,51 @@
--- Where a tightening ends, for the crates above: it is a rewriting, in which no number falls below 0, the constant only grows, and each train is left a choice that costs nothing.
-use mathlib.Core.Path.{_≡_}
+-- Where a tightening ends, for the crates above: it is a rewriting, in which no open number falls below 0, the constant only grows, and each train with a permitted choice is left one that
+-- costs nothing.
+use mathlib.Core.Path.{_≡_, sym, _∙_}
 use mathlib.Core.Bool.{true}
 use mathlib.Core.List.{List}
 use Prim.Native.Nat.{ℕ, _+_, _*_, _<_, _≤_}
 use native.Mathlib.Omega.{arith}
-use lib.IntN.{ℤ, pos}
+use lib.IntN.{ℤ}
 use Rattle.theory.specs.Fold.{iter}
-use Rattle.tables.specs.Block.{maxParts, heldChoicesFrom, heldEntriesFrom, at, figure, trains, pairs, constant}
-use Rattle.tables.specs.Plans.{IsPlan, shapeOf, heldTotal}
+use Rattle.tables.specs.Block.{maxParts, constantPlace, heldChoicesFrom, heldEntriesFrom, trains, pairs, size, constant}
+use Rattle.tables.specs.Plans.{IsPlan, Open, shapeOf, heldTotal}
 use Rattle.tables.specs.WellFormed.{holdsStudy, Study}
-use Rattle.tables.proofs.Study.{study-holds, same-trains, same-size}
+use Rattle.tables.proofs.Limits.{natural-open}
+use Rattle.tables.proofs.Study.{same-figure}
+use Rattle.rewriting.specs.Judged.{kept}
 use Rattle.rewriting.specs.Moves.{ShapeInRange}
-use Rattle.rewriting.specs.Leasts.{trainTightened}
-use Rattle.rewriting.proofs.Shape.{study-shape-in-range, study-non-empty, study-non-negative, study-room, shape-in-range-kept, non-empty-kept, Moved, none, moved-shape, moved-map, moved-more, moved-then, allMoves, Any}
-use Rattle.rewriting.proofs.Totals.{moved-keeps-total}
-use Rattle.rewriting.proofs.Reach.{reach-study}
-use Rattle.rewriting.proofs.Rewritten.{rewrites-shape, rewrites-unmet}
-use Rattle.rewriting.proofs.Falls.{Falling, falling-room, falling-non-negative, falling-start, Tight, moved-falling, moved-raises, trains-tightened, Zero, zero-as}
-use Rattle.tighten.specs.Tighten.{pairTightened, pairsTightened, tightened}
-use Rattle.tighten.proofs.Folds.{trains-zero, pairs-tightened}
+use Rattle.rewriting.specs.Leasts.{NonNegative, trainTightened}
+use Rattle.rewriting.proofs.Shape.{study-shape-in-range, study-room, SameLoaded, shape-in-range-kept, Moved, none, moved-loaded, moved-map, moved-more, moved-then, allMoves, Any}
+use Rattle.rewriting.proofs.Opens.{study-constant, study-non-negative}
+use Rattle.rewriting.proofs.Rewritten.{loaded-alike, rewrites-open, judged-cases}
+use Rattle.rewriting.proofs.Falls.{Falling, falling-start, Tight, moved-falling, moved-raises, trains-tightened, Zero}
+use Rattle.weights.proofs.Held.{rewrites-within}
+use Rattle.tighten.specs.Tighten.{pairTightened, pairsTightened, tightened, tightenBlock}
+use Rattle.tighten.proofs.Folds.{zero-back, trains-zero, pairs-tightened}
 
 module _ {b : List ℤ} (s : Study b) where
+  begins : Falling heldEntriesFrom maxParts maxParts b
+  begins = falling-start (study-non-negative s) (study-room s)
+
   pairs-chain : Moved (Tight heldEntriesFrom) b (0 + 16 * pairs b) (pairsTightened b)
   pairs-chain = pairs-tightened (study-shape-in-range s) (pairs b) 0 b (omega arith) none
 
-  abbrev pairs-falling : Falling heldEntriesFrom maxParts (maxParts + (0 + 16 * pairs b) * maxParts) (pairsTightened b)
-  pairs-falling = moved-falling (study-shape-in-range s) (falling-start (study-non-negative s) (study-room s)) pairs-chain
+  -- the most that a number is away from 0 after the pairs
+  abbrev pairs-most : ℕ
+  pairs-most = maxParts + (0 + 16 * pairs b) * (2 * maxParts + 3)
 
-  -- no number falls below 0 in the pairs' turns
-  pub pairs-natural : (m : ℕ) → m ≤ pairs b → (p : ℕ) → at (iter m pairTightened b) p ≡ pos (figure (iter m pairTightened b) p)
-  pairs-natural m h = moved-falling (study-shape-in-range s) (falling-start (study-non-negative s) (study-room s)) (pairs-tightened (study-shape-in-range s) m 0 b h none) .natural
+  abbrev pairs-falling : Falling heldEntriesFrom maxParts pairs-most (pairsTightened b)
+  pairs-falling = moved-falling (study-shape-in-range s) begins pairs-chain
+
+  -- no open number falls below 0 in the pairs' turns
+  pub pairs-natural : (m : ℕ) → m ≤ pairs b → NonNegative (iter m pairTightened b)
+  pairs-natural m h = moved-falling (study-shape-in-range s) begins (pairs-tightened (study-shape-in-range s) m 0 b h none) .whole
+
+  between-loaded : SameLoaded b (pairsTightened b)
+  between-loaded = moved-loaded (study-shape-in-range s) pairs-chain
 
   between : ShapeInRange (pairsTightened b)
-  between = shape-in-range-kept (moved-shape (study-shape-in-range s) pairs-chain) (study-shape-in-range s)
+  between = shape-in-range-kept (between-loaded .shape) (study-shape-in-range s)
 
   trains-chain : (m : ℕ) → m ≤ trains (pairsTightened b) → Moved (Tight heldChoicesFrom) (pairsTightened b) (0 + m) (iter m trainTightened (pairsTightened b))
   trains-chain m h = trains-tightened between m 0 (pairsTightened b) h none
@@ -44,45 +57,41 @@ module _ {b : List ℤ} (s : Study b) where
       moved-more (omega (arith, study-shape-in-range s .pairs, between .trains))
       (moved-then (study-shape-in-range s) (moved-map (λ run c α r. tt) pairs-chain) (moved-map (λ run c α r. tt) (trains-chain (trains (pairsTightened b)) (omega arith))))
 
-  -- the most that a number is after the pairs
-  abbrev pairs-most : ℕ
-  pairs-most = maxParts + (0 + 16 * pairs b) * maxParts
-
   start-falling : Falling heldChoicesFrom pairs-most pairs-most (pairsTightened b)
-  start-falling = falling-start (falling-non-negative pairs-falling) (falling-room pairs-falling)
+  start-falling = falling-start (pairs-falling .whole) (pairs-falling .most)
 
-  trains-falling : (m : ℕ) → m ≤ trains (pairsTightened b)
-      → Falling heldChoicesFrom pairs-most (pairs-most + (0 + m) * pairs-most) (iter m trainTightened (pairsTightened b))
-  trains-falling m h = moved-falling between start-falling (trains-chain m h)
-
-  -- no number falls below 0
-  pub tighten-natural : (p : ℕ) → at (tightened b) p ≡ pos (figure (tightened b) p)
+  -- no open number falls below 0
+  pub tighten-natural : NonNegative (tightened b)
   unfolding tightened
-  tighten-natural = trains-falling (trains (pairsTightened b)) (omega arith) .natural
+  tighten-natural = moved-falling between start-falling (trains-chain (trains (pairsTightened b)) (omega arith)) .whole
 
-  pub tighten-keeps-total : (x : ℕ → ℕ) → IsPlan (shapeOf b) x → heldTotal (tightened b) x ≡ heldTotal b x
-  tighten-keeps-total = moved-keeps-total s tighten-rewrites tighten-natural
-
-  pub tighten-raises-constant : constant b ≤ constant (tightened b)
+  -- the constant only grows
+  raised : constant b ≤ constant (tightened b)
   unfolding tightened
-  tighten-raises-constant =
+  raised =
       omega (
         arith,
-        moved-raises {source = heldEntriesFrom} (omega arith) (study-shape-in-range s) (falling-start (study-non-negative s) (study-room s)) pairs-chain,
+        moved-raises {source = heldEntriesFrom} (omega arith) (study-shape-in-range s) begins pairs-chain,
         moved-raises {source = heldChoicesFrom} (omega arith) between start-falling (trains-chain (trains (pairsTightened b)) (omega arith)),
       )
 
-  -- each train has a choice that costs nothing
-  pub tighten-leaves-zero : (i : ℕ) → i < trains b → Zero b (tightened b) i
-  unfolding tightened
-  tighten-leaves-zero i h =
-      let e = moved-shape (study-shape-in-range s) pairs-chain in
-      zero-as (same-size e i (omega (arith, study-shape-in-range s .trains)))
-      (trains-zero between (non-empty-kept e (study-shape-in-range s) (study-non-empty s)) start-falling (trains (pairsTightened b)) (omega arith) i (omega (arith, same-trains e)))
+  pub tighten-raises-constant : constant b ≤ constant (tightenBlock b)
+  tighten-raises-constant =
+      judged-cases s tighten-rewrites (λ c. constant b ≤ constant c) (omega arith)
+      (λ t. omega (
+        arith,
+        raised,
+        same-figure (tightened b) (kept b (tightened b)) constantPlace (rewrites-open s tighten-rewrites constantPlace (natural-open _ _ (study-constant s))),
+      ))
 
-  -- where no plan's total is above L, nothing is declined
-  pub tighten-within : ((x : ℕ → ℕ) → IsPlan (shapeOf b) x → heldTotal b x ≤ maxParts) → holdsStudy (tightened b) ≡ true
-  tighten-within low =
-      study-holds
-      (reach-study s (tightened b) (rewrites-shape s tighten-rewrites) tighten-natural (rewrites-unmet s tighten-rewrites)
-      (λ x p. rw (tighten-keeps-total x p) (low x p)))
+  -- each train with a permitted choice has one that costs nothing
+  pub tighten-leaves-zero : (i : ℕ) → i < trains b → (a : ℕ) → a < size b i → shapeOf b .choiceOpen i a ≡ true → Zero b (tightened b) i
+  unfolding tightened
+  tighten-leaves-zero i h a q o =
+      let l = loaded-alike (study-shape-in-range s) between-loaded in
+      zero-back (study-shape-in-range s) between-loaded i h
+      (trains-zero between start-falling (trains (pairsTightened b)) (omega arith) i (omega (arith, l .trains-same)) a (omega (arith, l .sizes-same i h)) (sym (l .choices-open-same i a h q) ∙ o))
+
+  -- where nothing is forbidden and no plan's total is above L, nothing is declined
+  pub tighten-within : Open (shapeOf b) → ((x : ℕ → ℕ) → IsPlan (shapeOf b) x → heldTotal b x ≤ maxParts) → holdsStudy (kept b (tightened b)) ≡ true
+  tighten-within o low = rewrites-within s tighten-rewrites o tighten-natural low

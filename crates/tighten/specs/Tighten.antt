@@ -1,4 +1,4 @@
--- Document 01, '04 tighten'.
+-- Document 01, '04 tighten'. The leasts are over permitted entries, and what goes to a forbidden choice is lost: that is put back at the end.
 use mathlib.Core.List.{List}
 use Prim.Native.Nat.{ℕ}
 use lib.IntN.{ℤ}
@@ -26,7 +26,7 @@ unfoldable pub tightened : List ℤ → List ℤ
 tightened b = trainsTightened (pairsTightened b)
 
 abbrev pub tightenOutcome : List ℤ → Verdict
-tightenOutcome b = judged (tightened b)
+tightenOutcome b = judged b (tightened b)
 
 abbrev pub tightenBlock : List ℤ → List ℤ
 tightenBlock b = judgedBlock b (tightened b)

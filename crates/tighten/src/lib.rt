@@ -3,7 +3,8 @@ ghost use mathlib.Core.Path.{_≡_};
 ghost use Prim.Native.Nat.{_<_, _^_};
 ghost use Rattle.tables.specs.Block.{maxParts, pairs};
 ghost use Rattle.tables.specs.WellFormed.{Study};
-ghost use Rattle.rewriting.specs.Moves.{Room, ShapeInRange, NonEmpty, NonNegative};
+ghost use Rattle.rewriting.specs.Moves.{Room, ShapeInRange};
+ghost use Rattle.rewriting.specs.Leasts.{NonNegative};
 ghost use Rattle.tighten.specs.Tighten.{pairTightened, pairsTightened, trainsTightened, tightenOutcome, tightenBlock};
 use refusals::Verdict;
 use rewriting::judging;
@@ -22,12 +23,12 @@ pub fn tighten(block: &mut [i64]) -> Verdict
     judging::copy(&mut end, block);
     tighten_pairs(&mut end);
     tighten_trains(&mut end);
-    judging::settle(block, &end)
+    judging::settle(block, &mut end)
 }
 
 // Tightens each row of pair k, then each column.
 fn tighten_pair(b: &mut [i64], k: usize)
-    requires { ⌜ (ShapeInRange (now b)) × (NonEmpty (now b)) × (NonNegative (now b)) × (Room (now b) (2 ^ 47)) × (k < pairs (now b)) ⌝ }
+    requires { ⌜ (ShapeInRange (now b)) × (NonNegative (now b)) × (Room (now b) (2 ^ 47)) × (k < pairs (now b)) ⌝ }
     ensures { λ _. ⌜ now (b .exit) ≡ pairTightened k (now (b .entry)) ⌝ }
 {
     leasts::tighten_lanes(b, k, Side::Rows);
@@ -36,7 +37,7 @@ fn tighten_pair(b: &mut [i64], k: usize)
 
 // Tightens every pair.
 fn tighten_pairs(b: &mut [i64])
-    requires { ⌜ (ShapeInRange (now b)) × (NonEmpty (now b)) × (NonNegative (now b)) × (Room (now b) maxParts) ⌝ }
+    requires { ⌜ (ShapeInRange (now b)) × (NonNegative (now b)) × (Room (now b) maxParts) ⌝ }
     ensures { λ _. ⌜ now (b .exit) ≡ pairsTightened (now (b .entry)) ⌝ }
 {
     let m = block::pairs(b);
@@ -49,7 +50,7 @@ fn tighten_pairs(b: &mut [i64])
 
 // Moves the least of each train's choices to the constant.
 fn tighten_trains(b: &mut [i64])
-    requires { ⌜ (ShapeInRange (now b)) × (NonEmpty (now b)) × (NonNegative (now b)) × (Room (now b) (2 ^ 50)) ⌝ }
+    requires { ⌜ (ShapeInRange (now b)) × (NonNegative (now b)) × (Room (now b) (2 ^ 50)) ⌝ }
     ensures { λ _. ⌜ now (b .exit) ≡ trainsTightened (now (b .entry)) ⌝ }
 {
     let n = block::trains(b);

@@ -1,4 +1,4 @@
--- The round is made on a copy, and the end is judged.
+-- The round is made on a copy, and the end is judged, with what is forbidden put back.
 use borrow.Author.Needs.{needs}
 use mathlib.Core.Path.{ap, _∙_}
 use Rattle.rewriting.specs.Judged.{judged, judgedBlock}
@@ -29,10 +29,11 @@ same-length c = search needs
 
 returns : tie.Need-returns
 returns c =
-    let d = c .before .before .before .before .before in
+    let d = c .before .before .before .before .before .before in
     let s = d .before .before .before .before .before .before in
-    let e = directed-by (s .args .block .now) (d .before .before .before .copy .ensures) (d .round-trains .ensures) in
-    (c .before .settle .ensures .0 ∙ ap judged e, c .before .settle .ensures .1 ∙ ap (judgedBlock (s .args .block .now)) e)
+    let b = s .args .block .now in
+    let e = directed-by b (d .before .before .before .copy .ensures) (d .round-trains .ensures) in
+    (c .before .before .settle .ensures .0 ∙ ap (judged b) e, c .before .before .settle .ensures .1 ∙ ap (judgedBlock b) e)
 
 pub direct-spec : {M : Type 1} → statement M
 direct-spec =

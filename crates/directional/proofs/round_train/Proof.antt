@@ -8,10 +8,9 @@ use Rattle.theory.specs.Fold.{iter}
 use Rattle.theory.proofs.Fold.{iter-zero, iter-turn}
 use Rattle.tables.specs.Block.{pairs}
 use Rattle.tables.proofs.Study.{same-pairs, same-trains}
-use Rattle.rewriting.proofs.Shape.{shape-in-range-kept, non-empty-kept}
+use Rattle.rewriting.proofs.Shape.{shape-in-range-kept}
 use Rattle.directional.specs.Directional.{pairTurn}
-use Rattle.directional.proofs.Lanes.{whole-natural}
-use Rattle.directional.proofs.Progress.{Progress, Waiting, progress-shape, progress-room, progress-ready, progress-part, train-round-by}
+use Rattle.directional.proofs.Progress.{Progress, Waiting, progress-loaded, progress-room, progress-ready, progress-part, train-round-by}
 use Rattle.directional.proofs.round_train.Statement.{statement}
 use Rattle.directional.proofs.round_train.Tie as tie
 
@@ -42,10 +41,9 @@ turn-pair-requires c κs =
     let s = l .before .before .before in
     let r = s .pre .0 in
     let p = progress l in
-    let e = progress-shape (r .shape-in-range) p in (
+    let e = progress-loaded (r .shape-in-range) p .shape in (
       shape-in-range-kept e (r .shape-in-range),
-      non-empty-kept e (r .shape-in-range) (r .non-empty),
-      whole-natural (p .whole),
+      p .whole .non-negative,
       progress-room (2 ^ 47) (omega arith) p,
       omega (arith, l .before .pairs .ensures, same-pairs e),
     )
@@ -68,8 +66,8 @@ tighten-train-requires c κs =
     let s = l .before .before .before in
     let r = s .pre .0 in
     let p = progress l in
-    let e = progress-shape (r .shape-in-range) p in
-    (shape-in-range-kept e (r .shape-in-range), non-empty-kept e (r .shape-in-range) (r .non-empty), progress-room (2 ^ 57) (omega arith) p, omega (arith, same-trains e))
+    let e = progress-loaded (r .shape-in-range) p .shape in
+    (shape-in-range-kept e (r .shape-in-range), progress-room (2 ^ 57) (omega arith) p, omega (arith, same-trains e))
 
 same-length : tie.Need-same-length Inv-loop μ-loop
 same-length c = search needs

@@ -10,7 +10,7 @@ use Rattle.tables.specs.Block.{trains, second}
 use Rattle.tables.proofs.Study.{same-trains}
 use Rattle.rewriting.proofs.Shape.{study-shape-in-range, study-non-empty}
 use Rattle.directional.specs.Directional.{trainRound, directed}
-use Rattle.directional.proofs.Progress.{Progress, progress-map, progress-shape, ready-progress, progress-train}
+use Rattle.directional.proofs.Progress.{Progress, progress-map, progress-loaded, ready-progress, progress-train}
 use Rattle.directional.proofs.Ends.{study-ascending, progress-start, directed-start, directed-turn}
 use Rattle.directional.proofs.round_trains.Statement.{statement}
 use Rattle.directional.proofs.round_trains.Tie as tie
@@ -43,7 +43,7 @@ round-train-requires c κs =
     let l = c .before .before in
     let s = l .before .before .before in
     let p = progress l (omega (arith, c .before .loop-test .taken)) in
-    (ready-progress (study-shape-in-range (s .pre)) (study-non-empty (s .pre)) (study-ascending (s .pre)) p, omega (arith, same-trains (progress-shape (study-shape-in-range (s .pre)) p)))
+    (ready-progress (study-shape-in-range (s .pre)) (study-non-empty (s .pre)) (study-ascending (s .pre)) p, omega (arith, same-trains (progress-loaded (study-shape-in-range (s .pre)) p .shape)))
 
 loop-less : tie.Need-loop-less Inv-loop μ-loop
 loop-less c = search needs

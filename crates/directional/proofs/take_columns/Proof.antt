@@ -1,4 +1,4 @@
--- Each turn takes one column, so that the shape stays, no number falls below 0, and none grows far.
+-- Each turn takes one column, so that the shape stays, no open number falls below 0, and none goes far from 0.
 use borrow.Author.Needs.{needs}
 use mathlib.Core.Path.{_≡_, refl, sym}
 use Prim.Native.Nat.{_-_, _≤_, _^_}
@@ -9,11 +9,11 @@ use Rattle.theory.proofs.Fold.{iter-zero, iter-turn}
 use Rattle.tables.specs.Block.{size, second}
 use Rattle.tables.proofs.Study.{same-pairs}
 use Rattle.rewriting.specs.declared.sides.Side.the-variants.{Columns}
-use Rattle.rewriting.proofs.Shape.{shape-same, shape-in-range-kept, same-lanes, lanes-most}
-use Rattle.rewriting.proofs.Falls.{room-figure}
+use Rattle.rewriting.proofs.Runs.{room-more}
+use Rattle.rewriting.proofs.Shape.{loaded-same, shape-in-range-kept, same-lanes, lanes-most}
 use Rattle.directional.specs.Directional.{columnTaken}
-use Rattle.directional.proofs.Lanes.{whole-of, whole-room}
-use Rattle.directional.proofs.Pair.{columns-part, columns-most}
+use Rattle.directional.proofs.Places.{Whole}
+use Rattle.directional.proofs.Pair.{columns-part, columns-room}
 use Rattle.directional.proofs.take_columns.Statement.{statement}
 use Rattle.directional.proofs.take_columns.Tie as tie
 
@@ -36,15 +36,16 @@ take-column-requires c κs =
     let b = s .args .b .now in
     let k = s .args .k in
     let h = s .pre .0 in
-    let w = whole-of (h .whole) (s .pre .1) in
+    let w : Whole b = record { long = h .whole; non-negative = s .pre .1 } in
     let q : l .loop .x ≤ size b (second b k) = omega (arith, l .before .lanes .ensures) in
-    let a = columns-part h k (s .pre .3) b (shape-same b) w (l .loop .x) q in
-    let m = columns-most h k (s .pre .3) b (shape-same b) w (2 ^ 50) (λ p. room-figure p b (2 ^ 50) (s .pre .2)) (l .loop .x) q in
+    let a = columns-part h k (s .pre .3) b (loaded-same b) w (l .loop .x) q in
+    let e = a .loaded .shape in
+    let m = columns-room h k (s .pre .3) b (loaded-same b) w (2 ^ 50) (s .pre .2) (l .loop .x) q in
     rw (l .loop .inv .2) (
-      shape-in-range-kept (a .shape) h,
-      whole-room (a .whole) (2 ^ 57) (λ p. omega (arith, m p, lanes-most h Columns k (s .pre .3))),
-      omega (arith, same-pairs (a .shape)),
-      omega (arith, l .before .lanes .ensures, same-lanes (a .shape) h k (omega (arith, h .pairs)) Columns),
+      shape-in-range-kept e h,
+      room-more (2 ^ 57) m (omega (arith, lanes-most h Columns k (s .pre .3))),
+      omega (arith, same-pairs e),
+      omega (arith, l .before .lanes .ensures, same-lanes e h k (omega (arith, h .pairs)) Columns),
     )
 
 add-x : tie.Need-add-x Inv-loop μ-loop

@@ -55,11 +55,11 @@ same-length c = search needs
 
 returns : tie.Need-returns
 returns c =
-    let p = c .before .before .before .before .before in
+    let p = c .before .before .before .before .before .before in
     let l = p .before .before .before in
     let s = l .before .before .before .before .before .before in
     let e = shifted-by (s .args .lifts .now) (s .args .moves .now) (s .args .block .now) (l .before .before .before .copy .ensures) (l .lift-trains .ensures) (p .shift-pairs .ensures) in
-    (c .before .settle .ensures .0 ∙ ap judged e, c .before .settle .ensures .1 ∙ ap (judgedBlock (s .args .block .now)) e)
+    (c .before .before .settle .ensures .0 ∙ ap (judged (s .args .block .now)) e, c .before .before .settle .ensures .1 ∙ ap (judgedBlock (s .args .block .now)) e)
 
 pub shift-spec : {M : Type 1} → statement M
 shift-spec =

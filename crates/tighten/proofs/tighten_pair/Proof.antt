@@ -1,4 +1,4 @@
--- The rows, then the columns: a chain of moves keeps the shape, and no number falls below 0 or grows far.
+-- The rows, then the columns: a chain of moves keeps the shape, no open number falls below 0, and none goes far.
 use borrow.Author.Needs.{needs}
 use Prim.Native.Nat.{_+_, _^_}
 use native.Mathlib.Omega.{arith}
@@ -6,14 +6,14 @@ use Rattle.tables.specs.Block.{heldEntriesFrom, size, first}
 use Rattle.tables.proofs.Study.{same-pairs}
 use Rattle.rewriting.specs.declared.sides.Side.the-variants.{Rows}
 use Rattle.rewriting.proofs.Runs.{room-more}
-use Rattle.rewriting.proofs.Shape.{Moved, none, moved-as, moved-shape, shape-in-range-kept, non-empty-kept, lanes-most}
-use Rattle.rewriting.proofs.Falls.{Tight, falling-room, falling-non-negative, falling-start, moved-falling, lanes-tightened}
+use Rattle.rewriting.proofs.Shape.{Moved, none, moved-as, moved-shape, shape-in-range-kept, lanes-most}
+use Rattle.rewriting.proofs.Falls.{Tight, falling-start, moved-falling, lanes-tightened}
 use Rattle.tighten.proofs.Folds.{pair-tight-by}
 use Rattle.tighten.proofs.tighten_pair.Statement.{statement}
 use Rattle.tighten.proofs.tighten_pair.Tie as tie
 
 tighten-lanes-requires : tie.Need-tighten-lanes-requires
-tighten-lanes-requires c κs = let s = c .before in (s .pre .0, s .pre .1, s .pre .2, room-more (2 ^ 51) (s .pre .3) (omega arith), s .pre .4)
+tighten-lanes-requires c κs = let s = c .before in (s .pre .0, s .pre .1, room-more (2 ^ 52) (s .pre .2) (omega arith), s .pre .3)
 
 tighten-lanes-requires-2 : tie.Need-tighten-lanes-requires-2
 tighten-lanes-requires-2 c κs =
@@ -21,12 +21,12 @@ tighten-lanes-requires-2 c κs =
     let s = r .before .before in
     let h = s .pre .0 in
     let b = s .args .b .now in
-    let l = lanes-most h Rows (s .args .k) (s .pre .4) in
+    let l = lanes-most h Rows (s .args .k) (s .pre .3) in
     let w : Moved (Tight heldEntriesFrom) b (0 + size b (first b (s .args .k))) (r .tighten-lanes .last .0) =
-    moved-as (r .tighten-lanes .ensures) (lanes-tightened h Rows (s .args .k) _ 0 b (s .pre .4) (omega arith) none) in
+    moved-as (r .tighten-lanes .ensures) (lanes-tightened h Rows (s .args .k) _ 0 b (s .pre .3) (omega arith) none) in
     let e = moved-shape h w in
-    let o = moved-falling h (falling-start (s .pre .2) (s .pre .3)) w in
-    (shape-in-range-kept e h, non-empty-kept e h (s .pre .1), falling-non-negative o, room-more (2 ^ 51) (falling-room o) (omega arith), omega (arith, same-pairs e))
+    let o = moved-falling h (falling-start (s .pre .1) (s .pre .2)) w in
+    (shape-in-range-kept e h, o .whole, room-more (2 ^ 52) (o .most) (omega arith), omega (arith, same-pairs e))
 
 same-length : tie.Need-same-length
 same-length c = search needs

@@ -9,8 +9,8 @@ use Rattle.theory.proofs.Fold.{iter-zero, iter-turn}
 use Rattle.tables.specs.Block.{heldEntriesFrom, pairs}
 use Rattle.tables.proofs.Study.{same-pairs}
 use Rattle.rewriting.proofs.Runs.{room-more}
-use Rattle.rewriting.proofs.Shape.{Moved, none, moved-as, moved-shape, shape-in-range-kept, non-empty-kept}
-use Rattle.rewriting.proofs.Falls.{Tight, falling-room, falling-non-negative, falling-start, moved-falling}
+use Rattle.rewriting.proofs.Shape.{Moved, none, moved-as, moved-shape, shape-in-range-kept}
+use Rattle.rewriting.proofs.Falls.{Tight, falling-start, moved-falling}
 use Rattle.tighten.specs.Tighten.{pairTightened}
 use Rattle.tighten.proofs.Folds.{pairs-tightened}
 use Rattle.tighten.proofs.tighten_pairs.Statement.{statement}
@@ -40,11 +40,10 @@ tighten-pair-requires c κs =
     let h = s .pre .0 in
     let w = chain l in
     let e = moved-shape h w in
-    let o = moved-falling h (falling-start (s .pre .2) (s .pre .3)) w in (
+    let o = moved-falling h (falling-start (s .pre .1) (s .pre .2)) w in (
       shape-in-range-kept e h,
-      non-empty-kept e h (s .pre .1),
-      falling-non-negative o,
-      room-more (2 ^ 47) (falling-room o) (omega (arith, l .before .pairs .ensures, h .pairs)),
+      o .whole,
+      room-more (2 ^ 47) (o .most) (omega (arith, l .before .pairs .ensures, h .pairs)),
       omega (arith, l .before .pairs .ensures, same-pairs e),
     )
 

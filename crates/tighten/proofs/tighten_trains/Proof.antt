@@ -10,8 +10,8 @@ use Rattle.tables.specs.Block.{heldChoicesFrom, trains}
 use Rattle.tables.proofs.Study.{same-trains}
 use Rattle.rewriting.specs.Leasts.{trainTightened}
 use Rattle.rewriting.proofs.Runs.{room-more}
-use Rattle.rewriting.proofs.Shape.{Moved, none, moved-as, moved-shape, shape-in-range-kept, non-empty-kept}
-use Rattle.rewriting.proofs.Falls.{Tight, falling-room, falling-start, moved-falling, trains-tightened}
+use Rattle.rewriting.proofs.Shape.{Moved, none, moved-as, moved-shape, shape-in-range-kept}
+use Rattle.rewriting.proofs.Falls.{Tight, falling-start, moved-falling, trains-tightened}
 use Rattle.tighten.proofs.tighten_trains.Statement.{statement}
 use Rattle.tighten.proofs.tighten_trains.Tie as tie
 
@@ -39,8 +39,7 @@ tighten-train-requires c κs =
     let w = chain l in
     let e = moved-shape (s .pre .0) w in (
       shape-in-range-kept e (s .pre .0),
-      non-empty-kept e (s .pre .0) (s .pre .1),
-      room-more (2 ^ 57) (falling-room (moved-falling (s .pre .0) (falling-start (s .pre .2) (s .pre .3)) w)) (omega (arith, l .before .trains .ensures, s .pre .0 .trains)),
+      room-more (2 ^ 57) (moved-falling (s .pre .0) (falling-start (s .pre .1) (s .pre .2)) w .most) (omega (arith, l .before .trains .ensures, s .pre .0 .trains)),
       omega (arith, l .before .trains .ensures, same-trains e),
     )
 

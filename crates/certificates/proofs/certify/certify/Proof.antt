@@ -1,11 +1,12 @@
--- The trains and the pairs are judged by runs, which say what the rule says. Where they agree, no run adds more than 100,000 times the highest held cost, so that E fits.
+-- The trains and the pairs, then what is forbidden, are judged by runs, which say what the rule says. Where the sums agree, no run adds more than 100,000 times the highest held cost, so that E fits.
 use borrow.Author.Needs.{needs}
 use mathlib.Core.Path.{_≡_, sym, _∙_}
 use mathlib.Core.Bool.{true, false}
 use Prim.Native.Nat.{_+_, _*_, _^_, _<_}
 use native.Mathlib.Omega.{arith}
+use borrow.Author.Tests.{not-true, not-false}
 use Rattle.certificates.specs.Runs.{trainsMatch, trainsWeighted, pairsMatch, pairsWeighted}
-use Rattle.certificates.proofs.Runs.{balanced-runs, weighted-runs, trains-within, part-given, none-given, floor-most, parts-most}
+use Rattle.certificates.proofs.Runs.{balanced-runs, spared-runs, weighted-runs, trains-within, part-given, none-given, floor-most, parts-most}
 use Rattle.certificates.proofs.certify.certify.Statement.{statement}
 use Rattle.certificates.proofs.certify.certify.Tie as tie
 
@@ -46,22 +47,38 @@ enum-told-2 c = search needs
 enum-known-entries : tie.Need-enum-known-entries
 enum-known-entries c = search needs
 
+spared-requires : tie.Need-spared-requires
+spared-requires c κs = let s = start (chosen (c .before .before .before) .before .before) in (s .pre .0, s .pre .1 .1)
+
+returns : tie.Need-returns
+returns c = let q = c .before .before .before in
+    let p = chosen (q .before .before) in
+    let a = start (p .before .before) .args in
+    rw (
+      balanced-runs (a .block .now) (a .full) (a .weights .now),
+      trains-agree p .0,
+      pairs-agree q .0,
+      spared-runs (a .block .now) (a .full) (a .weights .now),
+      ← c .before .spared .ensures,
+      not-true (c .before .spared .result) (c .if1 .taken),
+    )
+
 constant-requires : tie.Need-constant-requires
-constant-requires c κs = start (chosen (c .before .before .before) .before .before) .pre .0 .whole
+constant-requires c κs = start (chosen (c .before .before .before .before .before) .before .before) .pre .0 .whole
 
 number-requires : tie.Need-number-requires
 number-requires c κs = search needs
 
 mul-floor : tie.Need-mul-floor
-mul-floor c = let s = start (chosen (c .before .before .before .before .before) .before .before) in
+mul-floor c = let s = start (chosen (c .before .before .before .before .before .before .before) .before .before) in
     rw (c .number .ensures, c .before .constant .ensures) (omega (arith, floor-most (s .pre .0) (s .pre .1 .0)))
 
 -- E fits
 fits : (c : tie.After-number)
-    → start (chosen (c .before .before .before .before .before) .before .before) .args .full * c .number .result
-    + chosen (c .before .before .before .before .before) .choices .given .0 .0 + c .before .before .before .entries .given .0 .0 < 2 ^ 63
+    → start (chosen (c .before .before .before .before .before .before .before) .before .before) .args .full * c .number .result
+    + chosen (c .before .before .before .before .before .before .before) .choices .given .0 .0 + c .before .before .before .before .before .entries .given .0 .0 < 2 ^ 63
 fits c =
-    let q = c .before .before .before in
+    let q = c .before .before .before .before .before in
     let p = chosen (q .before .before) in
     let s = start (p .before .before) in
     rw (c .number .ensures, c .before .constant .ensures)
@@ -73,13 +90,13 @@ add-weighted c = omega (arith, fits c)
 add-weighted-2 : tie.Need-add-weighted-2
 add-weighted-2 c = omega (arith, fits c)
 
-returns : tie.Need-returns
-returns c = let t = c .before .before in
+returns-2 : tie.Need-returns-2
+returns-2 c = let t = c .before .before in
     let a = start t .args in
     rw (balanced-runs (a .block .now) (a .full) (a .weights .now), none-given (trainsMatch (a .block .now) (a .weights .now) (a .full)) _ (sym (t .trains-judged .ensures) ∙ c .enum-told .given .1))
 
-returns-2 : tie.Need-returns-2
-returns-2 c = let p = c .before .before in
+returns-3 : tie.Need-returns-3
+returns-3 c = let p = c .before .before in
     let a = start (chosen p .before .before) .args in
     rw (
       balanced-runs (a .block .now) (a .full) (a .weights .now),
@@ -87,14 +104,18 @@ returns-2 c = let p = c .before .before in
       none-given (pairsMatch (a .block .now) (a .weights .now)) _ (sym (p .pairs-judged .ensures) ∙ c .enum-told2 .given .1),
     )
 
-returns-3 : tie.Need-returns-3
-returns-3 c = let q = c .before .before .before in
+returns-4 : tie.Need-returns-4
+returns-4 c = let u = c .before .before .before in
+    let q = u .before .before in
     let p = chosen (q .before .before) in
     let a = start (p .before .before) .args in
     rw (
       balanced-runs (a .block .now) (a .full) (a .weights .now),
       trains-agree p .0,
       pairs-agree q .0,
+      spared-runs (a .block .now) (a .full) (a .weights .now),
+      ← u .spared .ensures,
+      not-false (u .spared .result) (c .before .before .if1 .left),
       weighted-runs (a .block .now) (a .full) (a .weights .now),
       ← c .before .constant .ensures,
       ← c .number .ensures,
@@ -112,11 +133,13 @@ certify-spec =
     pairs-judged-requires
     enum-told-2
     enum-known-entries
+    spared-requires
+    returns
     constant-requires
     number-requires
     mul-floor
     add-weighted
     add-weighted-2
-    returns
     returns-2
-    returns-3)
+    returns-3
+    returns-4)

@@ -18,6 +18,12 @@ enum-known-rule-2 c = search needs
 distance-requires : tie.Need-distance-requires
 distance-requires c κs = search needs
 
+enum-told-2 : tie.Need-enum-told-2
+enum-told-2 c = search needs
+
+is-cost-requires : tie.Need-is-cost-requires
+is-cost-requires c κs = search needs
+
 returns : tie.Need-returns
 returns c = search needs
 
@@ -26,6 +32,9 @@ returns-2 c = rw (c .before .before .rule .given .1) (c .between .ensures)
 
 returns-3 : tie.Need-returns-3
 returns-3 c = rw (c .before .before .rule2 .given .1, c .distance .ensures)
+
+returns-4 : tie.Need-returns-4
+returns-4 c = rw (c .before .enum-told2 .given .1) (c .is-cost .ensures)
 
 pub obeys-spec : {M : Type 1} → statement M
 obeys-spec =
@@ -36,6 +45,9 @@ obeys-spec =
     between-requires
     enum-known-rule-2
     distance-requires
+    enum-told-2
+    is-cost-requires
     returns
     returns-2
-    returns-3)
+    returns-3
+    returns-4)

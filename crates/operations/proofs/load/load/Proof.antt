@@ -20,10 +20,10 @@ load-pairs-requires : tie.Need-load-pairs-requires
 load-pairs-requires c κs = let s = c .before .before .before .before .before .before .before .before .before .before .before .before in (search needs, in-pairs (s .pre .1) maxTrains (s .pre .1 .trains .1))
 
 load-choices-requires : tie.Need-load-choices-requires
-load-choices-requires c κs = let r = c .before .before .before .before .before .before .before .before .before .before .before .before .before .before .before .pre .1 in ((search needs, in-scale r, in-sizes r, record { small = r .choice-costs }), r .choices)
+load-choices-requires c κs = let r = c .before .before .before .before .before .before .before .before .before .before .before .before .before .before .before .pre .1 in ((search needs, in-scale r, in-sizes r, record { right = r .choice-costs }), r .choices)
 
 load-entries-requires : tie.Need-load-entries-requires
-load-entries-requires c κs = let r = c .before .before .before .before .before .before .before .before .before .before .before .before .before .before .before .before .before .before .pre .1 in ((search needs, in-scale r, in-sizes r, record { small = r .entry-costs }), (in-pairs r _ (omega arith), r .entries))
+load-entries-requires c κs = let r = c .before .before .before .before .before .before .before .before .before .before .before .before .before .before .before .before .before .before .pre .1 in ((search needs, in-scale r, in-sizes r, record { right = r .entry-costs }), (in-pairs r _ (omega arith), r .entries))
 
 same-length : tie.Need-same-length
 same-length c = search needs

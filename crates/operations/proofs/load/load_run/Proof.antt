@@ -1,16 +1,14 @@
--- Each turn stores one cost, in points and in parts, as the definition does.
+-- Each turn stores one cost, as the definition does.
 use borrow.Author.Needs.{needs}
-use mathlib.Core.Path.{_≡_, refl, sym, ap}
-use Prim.Native.Nat.{_+_, _*_, _-_, _≤_}
+use mathlib.Core.Path.{_≡_, refl, sym, ap, _∙_}
+use mathlib.Core.List.{List}
+use Prim.Native.Nat.{_+_, _-_, _≤_}
 use native.Mathlib.Omega.{arith}
+use lib.IntN.{ℤ}
 use lib.ListN.{length}
-use native.Mathlib.Nat.{mul-le-mul}
 use Rattle.theory.specs.Fold.{iter}
-use Rattle.theory.specs.Lists.{nth}
-use Rattle.theory.proofs.Fold.{iter-zero}
-use Rattle.units.specs.declared.Parts.{Parts}
-use Rattle.tables.specs.Block.{maxCost}
-use Rattle.operations.proofs.LoadTurns.{runTurn, run-more}
+use Rattle.theory.proofs.Fold.{iter-zero, iter-turn}
+use Rattle.operations.proofs.LoadTurns.{runTurn}
 use Rattle.operations.proofs.load.load_run.Statement.{statement}
 use Rattle.operations.proofs.load.load_run.Tie as tie
 
@@ -23,44 +21,26 @@ abbrev μ-loop : tie.MeasureT-loop
 loop-holds : tie.Need-loop-holds Inv-loop μ-loop
 loop-holds c = (omega arith, refl, sym (iter-zero _ _))
 
-add-cost : tie.Need-add-cost Inv-loop μ-loop
-add-cost c = search needs
+add-load-cost : tie.Need-add-load-cost Inv-loop μ-loop
+add-load-cost c = search needs
 
-mul-cost : tie.Need-mul-cost Inv-loop μ-loop
-mul-cost c = search needs
+mul-load-cost : tie.Need-mul-load-cost Inv-loop μ-loop
+mul-load-cost c = search needs
 
-shared-slice-read-cost : tie.Need-shared-slice-read-cost Inv-loop μ-loop
-shared-slice-read-cost c = search needs
+shared-slice-read-load-cost : tie.Need-shared-slice-read-load-cost Inv-loop μ-loop
+shared-slice-read-load-cost c = search needs
 
--- the cost is within its limit
-small : (c : tie.In-loop Inv-loop μ-loop) → nth (c .before .before .before .args .costs .now) (c .before .before .before .args .start + c .before .loop .a) ≤ maxCost
-small c = c .before .before .before .pre .0 .1 .small (c .before .before .before .args .start + c .before .loop .a)
+add-load-cost-2 : tie.Need-add-load-cost-2 Inv-loop μ-loop
+add-load-cost-2 c = search needs
 
-of-requires : tie.Need-of-requires Inv-loop μ-loop
-of-requires c κs = search needs
+add-load-cost-3 : tie.Need-add-load-cost-3 Inv-loop μ-loop
+add-load-cost-3 c = search needs
 
--- the figure that is stored in H
-points : (c : tie.After-of Inv-loop μ-loop) → c .of .result .0 ≡ nth (c .before .before .before .before .before .args .costs .now) (c .before .before .before .before .before .args .start + c .before .before .before .loop .a)
-points c = c .of .ensures
-
-in-parts-requires : tie.Need-in-parts-requires Inv-loop μ-loop
-in-parts-requires c κs = (c .before .before .before .before .before .pre .0 .0, omega (arith, points c, small (c .before .before)))
-
-add-put-points : tie.Need-add-put-points Inv-loop μ-loop
-add-put-points c = search needs
-
-put-points-requires : tie.Need-put-points-requires Inv-loop μ-loop
-put-points-requires c κs = omega (arith, points (c .before .before), small (c .before .before .before .before))
-
-add-put-parts : tie.Need-add-put-parts Inv-loop μ-loop
-add-put-parts c = search needs
-
--- what is stored in T
-held : (c : tie.After-in-parts Inv-loop μ-loop) → c .in-parts .result .0 ≡ c .before .before .before .before .before .before .args .scale .0 * nth (c .before .before .before .before .before .before .args .costs .now) (c .before .before .before .before .before .before .args .start + c .before .before .before .before .loop .a)
-held c = rw (points (c .before)) at (ap (λ (q : Parts). q .0) (c .in-parts .ensures))
-
-put-parts-requires : tie.Need-put-parts-requires Inv-loop μ-loop
-put-parts-requires c κs = let d = c .before .before .before .before in omega (arith, held d, mul-le-mul (d .before .before .before .before .before .before .pre .0 .0 .high) (small (d .before .before .before)))
+load-cost-requires : tie.Need-load-cost-requires Inv-loop μ-loop
+load-cost-requires c κs =
+    let l = c .before .before .before in
+    let s = l .before .before in
+    (s .pre .0 .0, s .pre .0 .1 .right (s .args .start + l .loop .a), omega arith, omega arith)
 
 add-a : tie.Need-add-a Inv-loop μ-loop
 add-a c = search needs
@@ -70,12 +50,11 @@ loop-less c = search needs
 
 loop-again : tie.Need-loop-again Inv-loop μ-loop
 loop-again c =
-    let d = c .before .before .before .before .before .before in
-    let l = d .before .before .before .before in
+    let l = c .before .before .before .before .before in
     let a = l .before .before .args in (
       omega arith,
       search needs,
-      run-more (a .scale .0) (a .costs .now) (a .start) (a .loaded) (a .held) (l .loop .a) (a .b .now) (l .loop .inv .2) (rw (points (d .before)) at (c .before .before .before .before .put-points .ensures)) (held d) (c .before .put-parts .ensures),
+      iter-turn (runTurn (a .scale .0) (a .costs .now) (a .start) (a .loaded) (a .held)) (a .b .now) (l .loop .inv .2) (c .before .load-cost .ensures),
     )
 
 same-length : tie.Need-same-length Inv-loop μ-loop
@@ -91,15 +70,12 @@ load-run-spec =
     Inv-loop
     μ-loop
     loop-holds
-    add-cost
-    mul-cost
-    shared-slice-read-cost
-    of-requires
-    in-parts-requires
-    add-put-points
-    put-points-requires
-    add-put-parts
-    put-parts-requires
+    add-load-cost
+    mul-load-cost
+    shared-slice-read-load-cost
+    add-load-cost-2
+    add-load-cost-3
+    load-cost-requires
     add-a
     loop-less
     loop-again

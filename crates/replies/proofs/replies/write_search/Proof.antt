@@ -12,8 +12,8 @@ use Rattle.replies.proofs.replies.write_search.Tie as tie
 reply-kind-requires : tie.Need-reply-kind-requires
 reply-kind-requires c κs = search needs
 
-flag-requires : tie.Need-flag-requires
-flag-requires c κs = search needs
+ending-requires : tie.Need-ending-requires
+ending-requires c κs = search needs
 
 shown-cost-requires : tie.Need-shown-cost-requires
 shown-cost-requires c κs = search needs
@@ -38,7 +38,7 @@ unfolding searchReply
 returns c =
     let n = c .before .before .before .before .before .before .before .before .before .before in
     let a = n .before .before .before .before .args in
-    let fields = rw (n .before .before .reply-kind .ensures, n .before .flag .ensures, n .shown-cost .ensures) at (c .before .before .before .before .before .before .put-fields .ensures) in
+    let fields = rw (n .before .before .reply-kind .ensures, n .before .ending .ensures, n .shown-cost .ensures) at (c .before .before .before .before .before .before .put-fields .ensures) in
     wrote-as (wrote-through fields (planDigits (a .n) (a .f)) (c .before .before .write-plan .ensures)) (fields-first searchWidths _ [] _)
 
 pub write-search-spec : {M : Type 1} → statement M
@@ -46,7 +46,7 @@ write-search-spec =
     tie.close
     (tie.spec
     reply-kind-requires
-    flag-requires
+    ending-requires
     shown-cost-requires
     slice-aggregate-put-fields
     slice-aggregate-put-fields-2

@@ -18,6 +18,12 @@ enum-told c = search needs
 write-refusal-requires : tie.Need-write-refusal-requires
 write-refusal-requires c κs = search needs
 
+enum-told-2 : tie.Need-enum-told-2
+enum-told-2 c = search needs
+
+write-refusal-requires-2 : tie.Need-write-refusal-requires-2
+write-refusal-requires-2 c κs = search needs
+
 enum-known-c : tie.Need-enum-known-c
 enum-known-c c = search needs
 
@@ -43,6 +49,17 @@ same-length-4 c = search needs
 
 returns-2 : tie.Need-returns-2
 returns-2 c =
+    let s = c .before .before .before .before .before .before .before .before .before .before .before .before .before .before .before in
+    rw (certify-answer (s .args .line .now) (s .args .block .now) (s .args .q) (s .pre .1) (c .before .before .before .before .before .before .before .before .before .before .decode .ensures) (c .before .before .before .before .before .before .certify .ensures), c .before .before .before .before .enum-told2 .given .1) (c .before .before .write-refusal2 .ensures)
+
+same-length-5 : tie.Need-same-length-5
+same-length-5 c = search needs
+
+same-length-6 : tie.Need-same-length-6
+same-length-6 c = search needs
+
+returns-3 : tie.Need-returns-3
+returns-3 c =
     let s = c .before .before .before .before .before .before .before .before .before .before .before .before .before .before .before .before in
     rw (certify-answer (s .args .line .now) (s .args .block .now) (s .args .q) (s .pre .1) (c .before .before .before .before .before .before .before .before .before .before .before .decode .ensures) (c .before .before .before .before .before .before .before .certify .ensures), c .before .before .before .before .before .c .given .1) (c .before .before .write-certify .ensures)
 
@@ -54,6 +71,8 @@ certify-with-spec =
     certify-requires
     enum-told
     write-refusal-requires
+    enum-told-2
+    write-refusal-requires-2
     enum-known-c
     write-certify-requires
     same-length
@@ -61,4 +80,7 @@ certify-with-spec =
     returns
     same-length-3
     same-length-4
-    returns-2)
+    returns-2
+    same-length-5
+    same-length-6
+    returns-3)

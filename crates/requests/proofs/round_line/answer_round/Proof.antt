@@ -1,5 +1,6 @@
 -- A study stays one, so its bound can be written; a declined round leaves the block.
 use borrow.Author.Needs.{needs}
+use Rattle.rewriting.specs.Judged.{kept}
 use Rattle.rewriting.proofs.Rewritten.{judged-study}
 use Rattle.directional.specs.Directional.{directed, directOutcome}
 use Rattle.directional.proofs.Ends.{direct-rewrites}
@@ -23,7 +24,7 @@ same-length-2 c = search needs
 returns : tie.Need-returns
 returns c =
     let b = c .before .before .before .before .before .before .before .before .before .args .block .now in
-    operated-answers kind.Round (directOutcome b) b (directed b) (c .before .before .before .before .before .before .direct .ensures .0) (c .before .before .before .before .before .before .direct .ensures .1) (c .before .before .write-outcome .ensures)
+    operated-answers kind.Round (directOutcome b) b (kept b (directed b)) (c .before .before .before .before .before .before .direct .ensures .0) (c .before .before .before .before .before .before .direct .ensures .1) (c .before .before .write-outcome .ensures)
 
 pub answer-round-spec : {M : Type 1} → statement M
 answer-round-spec =

@@ -1,5 +1,6 @@
 -- A study stays one, so its bound can be written; a declined tightening leaves the block.
 use borrow.Author.Needs.{needs}
+use Rattle.rewriting.specs.Judged.{kept}
 use Rattle.rewriting.proofs.Rewritten.{judged-study}
 use Rattle.tighten.specs.Tighten.{tightened, tightenOutcome}
 use Rattle.tighten.proofs.Ends.{tighten-rewrites}
@@ -23,7 +24,7 @@ same-length-2 c = search needs
 returns : tie.Need-returns
 returns c =
     let b = c .before .before .before .before .before .before .before .before .before .args .block .now in
-    operated-answers kind.Tighten (tightenOutcome b) b (tightened b) (c .before .before .before .before .before .before .tighten .ensures .0) (c .before .before .before .before .before .before .tighten .ensures .1) (c .before .before .write-outcome .ensures)
+    operated-answers kind.Tighten (tightenOutcome b) b (kept b (tightened b)) (c .before .before .before .before .before .before .tighten .ensures .0) (c .before .before .before .before .before .before .tighten .ensures .1) (c .before .before .write-outcome .ensures)
 
 pub answer-tighten-spec : {M : Type 1} → statement M
 answer-tighten-spec =

@@ -1,80 +1,74 @@
--- The least so far is that of the first numbers of the run, and each turn takes in one more.
+-- What is found so far is the least of the first places of the run, and each turn takes in one more.
 use borrow.Author.Needs.{needs}
-use borrow.Author.Tests.{not-true, not-false, leb-true, leb-false}
 use mathlib.Core.Path.{_≡_, sym, ap, _∙_}
-use Prim.Native.Nat.{_+_, _-_, _<_}
-use native.Mathlib.Nat.{mul-zero, add-zero}
+use Prim.Native.Nat.{ℕ, _-_, _<_, _≤_}
 use native.Mathlib.Omega.{arith}
-use Rattle.theory.specs.Fold.{least as leastOf}
-use Rattle.theory.proofs.Fold.{least-zero, least-more}
-use Rattle.tables.specs.Block.{figure}
-use Rattle.rewriting.specs.declared.sides.PlaceRun.{PlaceRun}
+use Rattle.tables.specs.Block.{at, figure}
+use Rattle.tables.specs.WellFormed.{isOpen}
+use Rattle.rewriting.specs.declared.leasts.Found.{Found}
 use Rattle.rewriting.specs.Moves.{runPlace}
-use Rattle.rewriting.specs.Leasts.{runLeast}
+use Rattle.rewriting.specs.Leasts.{HeldPlace, openPlace, foundOf, runLeast}
+use Rattle.rewriting.proofs.Opens.{held-mate, open-cost}
+use Rattle.rewriting.proofs.LeastOpen.{found-none, found-turn}
 use Rattle.rewriting.proofs.leasts.run_least.Statement.{statement}
 use Rattle.rewriting.proofs.leasts.run_least.Tie as tie
 
 abbrev Inv-loop : tie.InvT-loop
-Inv-loop b run least₀ i₀ least i = (i < run .count) × (least .0 ≡ leastOf i (λ j. figure b (runPlace run j)))
+Inv-loop b run so₀ i₀ so i = (i ≤ run .count) × (so ≡ foundOf i (λ j. openPlace b (runPlace run j)) (λ j. figure b (runPlace run j)))
 
 abbrev μ-loop : tie.MeasureT-loop
-μ-loop b run least₀ i₀ least i = run .count - i
-
-first : (r : PlaceRun) → runPlace r 0 ≡ r .from
-first r = rw (mul-zero, add-zero)
-
-parts-requires : tie.Need-parts-requires Inv-loop μ-loop
-parts-requires c κs = let e : 0 < _ = c .pre .1 in omega (arith, first (c .args .run), c .pre .0 .inside 0 e)
+μ-loop b run so₀ i₀ so i = run .count - i
 
 loop-holds : tie.Need-loop-holds Inv-loop μ-loop
-loop-holds c = let a = c .before .args in (omega arith, c .parts .ensures ∙ sym (least-zero _ ∙ ap (figure (a .b .now)) (first (a .run))))
+loop-holds c = (omega arith, sym (found-none _ _))
 
-add-if1 : tie.Need-add-if1 Inv-loop μ-loop
-add-if1 c = search needs
+-- the place of a turn is in the block, and one of T
+mul-p : tie.Need-mul-p Inv-loop μ-loop
+mul-p c = let l = c .before .before .before in record { fits = omega (arith, l .before .pre .0 .inside (l .loop .i) (omega arith)) }
+
+add-p : tie.Need-add-p Inv-loop μ-loop
+add-p c = let l = c .before .before .before .before in record { fits = omega (arith, l .before .pre .0 .inside (l .loop .i) (omega arith)) }
+
+mate-place-requires : tie.Need-mate-place-requires Inv-loop μ-loop
+mate-place-requires c κs = let l = c .before .before .before .before in l .before .pre .1 .held (l .loop .i) (omega arith)
+
+is-open-requires : tie.Need-is-open-requires Inv-loop μ-loop
+is-open-requires c κs =
+    let l = c .before .before .before .before .before in
+    rw (c .mate-place .ensures)
+    (omega (arith, held-mate (l .before .pre .1 .held (l .loop .i) (omega arith)), l .before .pre .0 .inside (l .loop .i) (omega arith)))
+
+parts-requires : tie.Need-parts-requires Inv-loop μ-loop
+parts-requires c κs = let l = c .before .before .before .before .before .before in l .before .pre .0 .inside (l .loop .i) (omega arith)
+
+met-one-requires : tie.Need-met-one-requires Inv-loop μ-loop
+met-one-requires c κs = search needs
 
 add-i : tie.Need-add-i Inv-loop μ-loop
 add-i c = search needs
-
-mul-parts : tie.Need-mul-parts Inv-loop μ-loop
-mul-parts c = let l = c .before .before .before in record { fits = omega (arith, l .before .before .pre .0 .inside (l .loop .i + 1) (omega arith)) }
-
-add-parts : tie.Need-add-parts Inv-loop μ-loop
-add-parts c = let l = c .before .before .before .before in record { fits = omega (arith, l .before .before .pre .0 .inside (l .loop .i + 1) (omega arith)) }
-
-parts-requires-2 : tie.Need-parts-requires-2 Inv-loop μ-loop
-parts-requires-2 c κs = let l = c .before .before .before .before in omega (arith, l .before .before .pre .0 .inside (l .loop .i + 1) (omega arith))
-
-at-most-requires : tie.Need-at-most-requires Inv-loop μ-loop
-at-most-requires c κs = search needs
 
 loop-less : tie.Need-loop-less Inv-loop μ-loop
 loop-less c = search needs
 
 loop-again : tie.Need-loop-again Inv-loop μ-loop
 loop-again c =
-    let l = c .before .before .before .before .before .before .before in
-    let a = l .before .before .args in
-    let x = c .before .before .parts2 in
-    let above = leb-false (l .loop .least .0) (x .result .0) (sym (c .before .at-most .ensures) ∙ not-true _ (c .if2 .taken)) in
-    (omega arith, omega (arith, least-more (l .loop .i) (λ j. figure (a .b .now) (runPlace (a .run) j)), x .ensures, above, l .loop .inv .1))
-
-loop-less-2 : tie.Need-loop-less-2 Inv-loop μ-loop
-loop-less-2 c = search needs
-
-loop-again-2 : tie.Need-loop-again-2 Inv-loop μ-loop
-loop-again-2 c =
-    let l = c .before .before .before .before .before .before .before in
-    let a = l .before .before .args in
-    let x = c .before .before .parts2 in
-    let most = leb-true (l .loop .least .0) (x .result .0) (sym (c .before .at-most .ensures) ∙ not-false _ (c .if2 .left)) in
-    (omega arith, omega (arith, least-more (l .loop .i) (λ j. figure (a .b .now) (runPlace (a .run) j)), x .ensures, most, l .loop .inv .1))
+    let m = c .before .before .before in
+    let l = m .before .before .before .before .before in
+    let a = l .before .args in
+    let p = runPlace (a .run) (l .loop .i) in
+    let h = l .before .pre .1 .held (l .loop .i) (omega arith) in (
+      omega arith,
+      found-turn (l .loop .i) (λ j. openPlace (a .b .now) (runPlace (a .run) j)) (λ j. figure (a .b .now) (runPlace (a .run) j))
+          (c .before .before .is-open .ensures ∙ ap (λ (q : ℕ). isOpen (at (a .b .now) q)) (m .mate-place .ensures) ∙ sym (open-cost (a .b .now) p (omega (arith, h .low))))
+          (c .before .parts .ensures) (l .loop .inv .1) (c .met-one .ensures),
+    )
 
 returns : tie.Need-returns Inv-loop μ-loop
 unfolding runLeast
 returns c =
-    let l = c .before .before in
-    let e : l .before .before .args .run .count - 1 ≡ l .loop .i = omega arith in
-    rw e (l .loop .inv .1)
+    let l = c .before .before .before in
+    let e : l .loop .i ≡ l .before .args .run .count = omega arith in
+    ap (λ (f : Found). f .least .0) (rw e at (l .loop .inv .1))
 
 pub run-least-spec : {M : Type 1} → statement M
 run-least-spec =
@@ -82,16 +76,14 @@ run-least-spec =
     (tie.spec
     Inv-loop
     μ-loop
-    parts-requires
     loop-holds
-    add-if1
+    mul-p
+    add-p
+    mate-place-requires
+    is-open-requires
+    parts-requires
+    met-one-requires
     add-i
-    mul-parts
-    add-parts
-    parts-requires-2
-    at-most-requires
     loop-less
     loop-again
-    loop-less-2
-    loop-again-2
     returns)

@@ -9,10 +9,10 @@ use Rattle.theory.proofs.Fold.{iter-zero, iter-turn}
 use Rattle.tables.specs.Block.{heldEntriesFrom, size}
 use Rattle.tables.proofs.Study.{same-pairs}
 use Rattle.rewriting.specs.Moves.{laneTrain}
-use Rattle.rewriting.specs.Leasts.{laneTightened}
 use Rattle.rewriting.proofs.Runs.{room-more}
-use Rattle.rewriting.proofs.Shape.{Moved, none, moved-as, moved-shape, shape-in-range-kept, non-empty-kept, same-lanes, lanes-most}
-use Rattle.rewriting.proofs.Falls.{Tight, falling-room, falling-start, moved-falling, lanes-tightened}
+use Rattle.rewriting.proofs.Shape.{Moved, none, moved-as, moved-shape, shape-in-range-kept, same-lanes, lanes-most}
+use Rattle.rewriting.specs.Leasts.{laneTightened}
+use Rattle.rewriting.proofs.Falls.{Tight, falling-start, moved-falling, lanes-tightened}
 use Rattle.rewriting.proofs.leasts.tighten_lanes.Statement.{statement}
 use Rattle.rewriting.proofs.leasts.tighten_lanes.Tie as tie
 
@@ -32,7 +32,7 @@ chain : (l : tie.At-loop Inv-loop μ-loop) → Moved (Tight heldEntriesFrom) (l 
 chain l =
     let s = l .before .before .before in
     moved-as (l .loop .inv .2)
-    (lanes-tightened (s .pre .0) (s .args .side) (s .args .k) (l .loop .x) 0 (s .args .b .now) (s .pre .4) (omega (arith, l .before .lanes .ensures)) none)
+    (lanes-tightened (s .pre .0) (s .args .side) (s .args .k) (l .loop .x) 0 (s .args .b .now) (s .pre .3) (omega (arith, l .before .lanes .ensures)) none)
 
 tighten-lane-requires : tie.Need-tighten-lane-requires Inv-loop μ-loop
 tighten-lane-requires c κs =
@@ -41,10 +41,9 @@ tighten-lane-requires c κs =
     let h = s .pre .0 in
     let w = chain l in
     let e = moved-shape h w in
-    let n = lanes-most h (s .args .side) (s .args .k) (s .pre .4) in (
+    let n = lanes-most h (s .args .side) (s .args .k) (s .pre .3) in (
       shape-in-range-kept e h,
-      non-empty-kept e h (s .pre .1),
-      room-more (2 ^ 57) (falling-room (moved-falling h (falling-start (s .pre .2) (s .pre .3)) w)) (omega (arith, l .before .lanes .ensures)),
+      room-more (2 ^ 57) (moved-falling h (falling-start (s .pre .1) (s .pre .2)) w .most) (omega (arith, l .before .lanes .ensures)),
       omega (arith, same-pairs e),
       omega (arith, l .before .lanes .ensures, same-lanes e h (s .args .k) (omega (arith, h .pairs)) (s .args .side)),
     )

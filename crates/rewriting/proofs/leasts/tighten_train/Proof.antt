@@ -1,6 +1,6 @@
--- The run is the choices of the train: its places are in the block, and there is one at least.
+-- The run is the choices of the train: its places are in the block, and places of T.
 use borrow.Author.Needs.{needs}
-use Rattle.rewriting.proofs.Shape.{unary, project-run}
+use Rattle.rewriting.proofs.Shape.{unary, project-between-costs, project-run}
 use Rattle.rewriting.proofs.leasts.tighten_train.Statement.{statement}
 use Rattle.rewriting.proofs.leasts.tighten_train.Tie as tie
 
@@ -10,8 +10,8 @@ choices-requires c κs = search needs
 tighten-run-requires : tie.Need-tighten-run-requires
 tighten-run-requires c κs =
     let s = c .before .before .before in
-    let i = s .args .i in
-    rw (c .choices .ensures) (project-run (s .pre .0) (unary i (s .pre .3)), s .pre .1 .sizes i (s .pre .3), s .pre .2)
+    let p = unary (s .args .i) (s .pre .2) in
+    rw (c .choices .ensures) (project-run (s .pre .0) p, project-between-costs (s .pre .0) p .costs, s .pre .1)
 
 same-length : tie.Need-same-length
 same-length c = search needs

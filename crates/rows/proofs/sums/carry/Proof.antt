@@ -8,10 +8,11 @@ use lib.IntN.{ℤ}
 use lib.ListN.{length}
 use Rattle.tables.specs.Block.{pairs, first, second}
 use Rattle.tables.specs.Plans.{choicesOf}
-use Rattle.tables.proofs.Study.{trains-range, pairs-range, size-range, held-entry-high, first-below-trains, second-below-trains}
+use Rattle.tables.proofs.Study.{trains-range, pairs-range, size-range, first-below-trains, second-below-trains}
 use Rattle.rows.specs.Sums.{Summed, Steady, Carrying}
 use Rattle.rows.specs.Links.{sumsLength}
 use Rattle.rows.specs.Table.{beginOf}
+use Rattle.rows.proofs.Walled.{walled-entry-low}
 use Rattle.rows.proofs.Rows.{back-sum, back-low, steady-refl, steady-trans, steady-part, summed-more, row-low, carrying-room}
 use Rattle.rows.proofs.sums.carry.Statement.{statement}
 use Rattle.rows.proofs.sums.carry.Tie as tie
@@ -104,7 +105,7 @@ add-row-requires c κs =
         arith,
         back-sum b x (l .sums) (l .k) (second b (l .k)) (l .k) _ a (u .1) w (omega arith) j q,
         p .laid .rows (l .k) (x t) a h (rw e m) q,
-        held-entry-high (p .study) (l .k) (x t) a (omega (arith, pairs-range (p .study))) (omega (arith, m, z)) q,
+        walled-entry-low (p .study) (l .k) (x t) a (omega (arith, pairs-range (p .study))) (omega (arith, m, z)) q,
         pairs-range (p .study),
         h,
         row-low (p .study) x (second b (l .k)) (l .k) a j q (omega arith) (λ i r. omega (arith, p .below (first b i) (g .before i (omega arith)), size-range (p .study) (first b i) (first-below-trains (p .study) i (omega arith)))),

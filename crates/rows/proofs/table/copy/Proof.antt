@@ -1,16 +1,16 @@
--- The places below to + i hold the block's numbers; all others are as they were.
+-- The places below to + i hold what the block's count; all others are as they were.
 use borrow.Author.Needs.{needs}
 use mathlib.Core.Path.{_≡_}
 use Prim.Native.Nat.{_+_, _-_, _≤_}
 use native.Mathlib.Omega.{arith}
-use Rattle.tables.specs.Block.{figure}
+use Rattle.rows.specs.Walled.{walled}
 use Rattle.rows.specs.Table.{Part}
 use Rattle.rows.proofs.Parts.{part-none, part-more}
 use Rattle.rows.proofs.table.copy.Statement.{statement}
 use Rattle.rows.proofs.table.copy.Tie as tie
 
 abbrev Inv-loop : tie.InvT-loop
-Inv-loop b from count list₀ to i₀ list i = (i ≤ count) × Part (λ k v. v ≡ figure b (from + k)) to i list₀ list
+Inv-loop b from count list₀ to i₀ list i = (i ≤ count) × Part (λ k v. v ≡ walled b (from + k)) to i list₀ list
 
 abbrev μ-loop : tie.MeasureT-loop
 μ-loop b from count list₀ to i₀ list i = count - i
@@ -18,11 +18,11 @@ abbrev μ-loop : tie.MeasureT-loop
 loop-holds : tie.Need-loop-holds Inv-loop μ-loop
 loop-holds c = (omega arith, part-none _ _ _)
 
-add-natural : tie.Need-add-natural Inv-loop μ-loop
-add-natural c = search needs
+add-walled : tie.Need-add-walled Inv-loop μ-loop
+add-walled c = search needs
 
-natural-requires : tie.Need-natural-requires Inv-loop μ-loop
-natural-requires c κs = let s = c .before .before .before in (omega arith, s .pre .1 (c .before .loop .i) (omega arith))
+walled-requires : tie.Need-walled-requires Inv-loop μ-loop
+walled-requires c κs = search needs
 
 add-list : tie.Need-add-list Inv-loop μ-loop
 add-list c = search needs
@@ -44,7 +44,7 @@ loop-less c = search needs
 loop-again : tie.Need-loop-again Inv-loop μ-loop
 loop-again c =
     let l = c .before .before .loop in
-    (omega arith, part-more _ _ _ _ (l .list) _ (omega (arith, l .inv .1 .same)) (l .inv .1) (c .natural .ensures))
+    (omega arith, part-more _ _ _ _ (l .list) _ (omega (arith, l .inv .1 .same)) (l .inv .1) (c .walled .ensures))
 
 same-length : tie.Need-same-length Inv-loop μ-loop
 same-length c = c .before .loop .inv .1 .same
@@ -62,8 +62,8 @@ copy-spec =
     Inv-loop
     μ-loop
     loop-holds
-    add-natural
-    natural-requires
+    add-walled
+    walled-requires
     add-list
     mul-list
     slice-write-list

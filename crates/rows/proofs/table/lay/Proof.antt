@@ -1,10 +1,8 @@
 -- Each part is laid, and no later part lies over it.
 use borrow.Author.Needs.{needs}
 use mathlib.Core.Path.{_∙_}
-use Prim.Native.Nat.{_+_}
 use native.Mathlib.Omega.{arith}
-use Rattle.tables.specs.Block as block
-use Rattle.tables.proofs.Study.{study-place, trains-range}
+use Rattle.tables.proofs.Study.{trains-range}
 use Rattle.rows.proofs.Laying.{laid}
 use Rattle.rows.proofs.table.lay.Statement.{statement}
 use Rattle.rows.proofs.table.lay.Tie as tie
@@ -21,10 +19,8 @@ copy-requires c κs =
     let s = d .before .before .before in
     let n = trains-range (s .pre .0) in
     let e = c .before .trains .ensures in
-    let w = d .lay-costs .ensures .same ∙ s .pre .1 in (
-      (omega (arith, n, e, s .pre .0 .whole), omega (arith, n, e, w), omega (arith, w)),
-      λ i h. study-place (s .pre .0) (block.sizesFrom + i) (omega (arith, n, e)) .natural,
-    )
+    let w = d .lay-costs .ensures .same ∙ s .pre .1 in
+    (omega (arith, n, e, s .pre .0 .whole), omega (arith, n, e, w), omega (arith, w))
 
 fill-rows-requires : tie.Need-fill-rows-requires
 fill-rows-requires c κs = search needs
@@ -39,10 +35,8 @@ copy-requires-2 c κs =
     let d₂ = d₃ .before .before .before .before in
     let d₁ = d₂ .before .before .before .before .before in
     let s = d₁ .before .before .before in
-    let w = d₄ .fill-begins .ensures .same ∙ d₃ .fill-rows .ensures .same ∙ d₂ .copy .ensures .same ∙ d₁ .lay-costs .ensures .same ∙ s .pre .1 in (
-      (omega (arith, s .pre .0 .whole), omega (arith, w), omega (arith, w)),
-      λ i h. study-place (s .pre .0) (block.trainsPlace + i) (omega arith) .natural,
-    )
+    let w = d₄ .fill-begins .ensures .same ∙ d₃ .fill-rows .ensures .same ∙ d₂ .copy .ensures .same ∙ d₁ .lay-costs .ensures .same ∙ s .pre .1 in
+    (omega (arith, s .pre .0 .whole), omega (arith, w), omega (arith, w))
 
 same-length : tie.Need-same-length
 same-length c = search needs

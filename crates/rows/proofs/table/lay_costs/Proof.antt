@@ -1,11 +1,11 @@
 -- The rows of the pairs passed so far are laid; the next pair's stand behind them.
 use borrow.Author.Needs.{needs}
 use mathlib.Core.Path.{_≡_, _∙_}
-use Prim.Native.Nat.{_+_, _-_, _*_, _≤_}
+use Prim.Native.Nat.{_-_, _≤_}
 use native.Mathlib.Omega.{arith}
 use lib.ListN.{length}
-use Rattle.tables.specs.Block.{maxChoices, entriesOfPair, heldEntriesFrom, pairs}
-use Rattle.tables.proofs.Study.{study-place, pairs-range}
+use Rattle.tables.specs.Block.{maxChoices, pairs}
+use Rattle.tables.proofs.Study.{pairs-range}
 use Rattle.tables.proofs.Counting.{rows-range}
 use Rattle.rows.specs.Table.{tableLength, CostsLaid}
 use Rattle.rows.proofs.Laying.{costs-none, costs-more}
@@ -47,10 +47,8 @@ copy-requires : tie.Need-copy-requires Inv-loop μ-loop
 copy-requires c κs =
     let s = c .before .before .before .before .before .before in
     let r = few (c .before) in
-    let q = pairs-range (s .pre .0) in (
-      (omega (arith, r, q, s .pre .0 .whole), omega (arith, r, q), omega arith),
-      λ i h. study-place (s .pre .0) (heldEntriesFrom + entriesOfPair * (c .before .before .before .loop .k) + i) (omega (arith, r, q)) .natural,
-    )
+    let q = pairs-range (s .pre .0) in
+    (omega (arith, r, q, s .pre .0 .whole), omega (arith, r, q), omega arith)
 
 add-k : tie.Need-add-k Inv-loop μ-loop
 add-k c = search needs

@@ -1,9 +1,7 @@
 -- The choices of train j stand from 8 × j on, in the block's table and here.
 use borrow.Author.Needs.{needs}
 use native.Mathlib.Omega.{arith}
-use Prim.Native.Nat.{_+_}
-use Rattle.tables.specs.Block.{heldChoicesFrom}
-use Rattle.tables.proofs.Study.{study-place, trains-range}
+use Rattle.tables.proofs.Study.{trains-range}
 use Rattle.rows.proofs.Laying.{owned}
 use Rattle.rows.proofs.table.lay_own.Statement.{statement}
 use Rattle.rows.proofs.table.lay_own.Tie as tie
@@ -18,10 +16,8 @@ copy-requires : tie.Need-copy-requires
 copy-requires c κs =
     let s = c .before .before .before in
     let e = c .before .trains .ensures in
-    let n = trains-range (s .pre .0) in (
-      (omega (arith, e, n, s .pre .0 .whole), omega (arith, e, n, s .pre .1), omega (arith, s .pre .1)),
-      λ i h. study-place (s .pre .0) (heldChoicesFrom + i) (omega (arith, e, n)) .natural,
-    )
+    let n = trains-range (s .pre .0) in
+    (omega (arith, e, n, s .pre .0 .whole), omega (arith, e, n, s .pre .1), omega (arith, s .pre .1))
 
 same-length : tie.Need-same-length
 same-length c = search needs

@@ -11,13 +11,14 @@ use borrow.Fn.Kinds.{In}
 use borrow.Fn.PlainCycle.{Measures, is, falls, and}
 use Rattle.tables.specs.Block.{trains, size}
 use Rattle.tables.proofs.Study.{trains-range, size-range}
+use Rattle.rows.specs.Walled.{wall}
 use Rattle.rows.specs.Sums.{Steady, Sums}
 use Rattle.rows.specs.Table.{sizesFrom, trainsPlace, beginOf}
 use Rattle.search.specs.Held.{walkOf, Alike, At, comesTo, choicesFrom}
 use Rattle.search.proofs.Tries.{none-left}
 use Rattle.search.proofs.Alike.{alike-refl, alike-trans, alike-less, alike-set}
 use Rattle.rows.proofs.Rows.{begin-next, steady-refl, steady-trans, steady-less}
-use Rattle.search.proofs.Held.{held-out, held-dropped, held-whole, held-opens, trying-low, trying-at, tries-next, at-sums, at-room, at-place, carrying-at}
+use Rattle.search.proofs.Held.{held-out, held-dropped, held-whole, held-opens, trying-at, tries-next, at-sums, at-room, at-place, carrying-at}
 use Rattle.search.proofs.walk.open_train.Reads as open-train
 use Rattle.search.proofs.walk.open_train.Kinds as open-train-kinds
 use Rattle.search.proofs.walk.+open_train+try_choice.Lts-open_train as open-train-lts
@@ -54,6 +55,7 @@ abbrev open-train-Inv-loop : open-train-lts.InvT-loop
 open-train-Inv-loop table sums₀ chosen₀ plan₀ best₀ t left row d rest₀ a₀ sums chosen plan best rest a =
     (a ≤ d)
     × (rest ≤ rest₀)
+    × (best ≤ best₀)
     × Alike t (getD table trainsPlace 0) chosen₀ chosen
     × Steady (beginOf table t) sums₀ sums
     × ((b : List ℤ) (budget partial : ℕ) → At b table sums₀ t partial chosen₀ → Sums (comesTo b t partial chosen₀) row → rest₀ ≤ budget + 1
@@ -106,7 +108,7 @@ module _ (t : ℕ) where
       omega (arith, p .train, trains-range (p .study))
 
   o-loop-holds : open-train-lts.Need-loop-holds (open-calls t) (open-train-at t) open-train.Post open-train-Inv-loop open-train-μ-loop
-  o-loop-holds c = (omega arith, omega arith, alike-refl _ _ _, steady-refl _ _, λ b budget partial p f h. refl)
+  o-loop-holds c = (omega arith, omega arith, omega arith, alike-refl _ _ _, steady-refl _ _, λ b budget partial p f h. refl)
 
   o-mul-of : open-train-lts.Need-mul-of (open-calls t) (open-train-at t) open-train.Post open-train-Inv-loop open-train-μ-loop
   o-mul-of c =
@@ -135,7 +137,7 @@ module _ (t : ℕ) where
       let e = p .laid .sizes (s .args .t) (p .train) in
       let h : l .a < size (q .block) (s .args .t) = omega (arith, e) in
       let g = d .of .ensures ∙ at-sums p (r .row-from .ensures) .each (l .a) (omega (arith, z)) in
-      (omega (arith, p .train, p .laid .n, z, e), record { block = q .block; at = trying-at p h g (l .inv .2) (l .inv .3) })
+      (omega (arith, p .train, p .laid .n, z, e), record { block = q .block; at = trying-at p h g (l .inv .3) (l .inv .4); low = omega (arith, l .inv .2, q .low) })
 
   o-add-a : open-train-lts.Need-add-a (open-calls t) (open-train-at t) open-train.Post open-train-Inv-loop open-train-μ-loop
   o-add-a c =
@@ -154,12 +156,13 @@ module _ (t : ℕ) where
       let r = c .try-choice .ensures in (
         omega arith,
         omega (arith, r .fewer, l .inv .1),
-        alike-trans (l .inv .2) (r .kept),
-        steady-trans (l .inv .3) (r .steady),
+        omega (arith, r .lower, l .inv .2),
+        alike-trans (l .inv .3) (r .kept),
+        steady-trans (l .inv .4) (r .steady),
         λ b budget partial p f m.
             let h : l .a < size b (s .args .t) = omega (arith, p .laid .sizes (s .args .t) (p .train)) in
             let g = d .of .ensures ∙ f .each (l .a) (omega (arith, size-range (p .study) (s .args .t) (p .train))) in
-            tries-next p h g (l .inv .2) (l .inv .3) budget _ (walkOf budget (l .rest) (l .best) (l .plan)) (r .walk b budget (trying-at p h g (l .inv .2) (l .inv .3)) (omega (arith, l .inv .1))) ∙ l .inv .4 b budget partial p f m,
+            tries-next p h g (l .inv .3) (l .inv .4) budget _ (walkOf budget (l .rest) (l .best) (l .plan)) (r .walk b budget (trying-at p h g (l .inv .3) (l .inv .4)) (omega (arith, l .inv .1))) ∙ l .inv .5 b budget partial p f m,
       )
 
   o-returns : open-train-lts.Need-returns (open-calls t) (open-train-at t) open-train.Post open-train-Inv-loop open-train-μ-loop
@@ -169,18 +172,20 @@ module _ (t : ℕ) where
       record {
         walk = λ b budget p m.
             let e : l .a ≡ size b (s .args .t) = omega (arith, p .laid .sizes (s .args .t) (p .train)) in
-            sym (none-left _ _ _ _ e) ∙ l .inv .4 b budget _ p (at-sums p (c .before .before .before .row-from .ensures)) m;
+            sym (none-left _ _ _ _ e) ∙ l .inv .5 b budget _ p (at-sums p (c .before .before .before .row-from .ensures)) m;
         fewer = l .inv .1;
-        kept = l .inv .2;
-        steady = l .inv .3;
+        lower = l .inv .2;
+        kept = l .inv .3;
+        steady = l .inv .4;
       }
 
   t-returns : try-choice-lts.Need-returns (try-calls t) (try-choice-at t) try-choice.Post
   t-returns c =
       let s = c .before in
       record {
-        walk = λ b budget p m. held-out b budget (s .args .t) (s .args .a) (s .args .total .0) (s .args .left) (s .args .best .now) (s .args .chosen .now) (s .args .plan .now) m (trying-low p) (c .if1 .taken);
+        walk = λ b budget p m. held-out b budget (s .args .t) (s .args .a) (s .args .total .0) (s .args .left) (s .args .best .now) (s .args .chosen .now) (s .args .plan .now) m (s .pre .1 .low) (c .if1 .taken);
         fewer = omega arith;
+        lower = omega arith;
         kept = alike-refl _ _ _;
         steady = steady-refl _ _;
       }
@@ -195,8 +200,9 @@ module _ (t : ℕ) where
   t-returns-2 c =
       let s = c .before .before .before .before in
       record {
-        walk = λ b budget p m. held-dropped b budget (s .args .t) (s .args .a) (s .args .total .0) (s .args .left) (s .args .best .now) (s .args .chosen .now) (s .args .plan .now) m (trying-low p) (c .before .before .before .if1 .left) (rw (c .before .before .number .ensures) at (c .if2 .taken));
+        walk = λ b budget p m. held-dropped b budget (s .args .t) (s .args .a) (s .args .total .0) (s .args .left) (s .args .best .now) (s .args .chosen .now) (s .args .plan .now) m (s .pre .1 .low) (c .before .before .before .if1 .left) (rw (c .before .before .number .ensures) at (c .if2 .taken));
         fewer = omega arith;
+        lower = omega arith;
         kept = alike-refl _ _ _;
         steady = steady-refl _ _;
       }
@@ -226,25 +232,33 @@ module _ (t : ℕ) where
       let q = s .pre .1 .at in
       let e = c .before .before .before .before .before .number .ensures in
       record {
-        walk = λ b budget p m. rw e (held-whole b budget (s .args .t) (s .args .a) (s .args .total .0) (s .args .left) (s .args .best .now) (s .args .chosen .now) (s .args .plan .now) m (trying-low p) (c .before .before .before .before .before .before .if1 .left) (rw e at (c .before .before .before .if2 .left)) (c .before .if3 .taken ∙ p .laid .n));
+        walk = λ b budget p m. rw e (held-whole b budget (s .args .t) (s .args .a) (s .args .total .0) (s .args .left) (s .args .best .now) (s .args .chosen .now) (s .args .plan .now) m (s .pre .1 .low) (c .before .before .before .before .before .before .if1 .left) (rw e at (c .before .before .before .if2 .left)) (c .before .if3 .taken ∙ p .laid .n));
         fewer = omega arith;
+        lower = omega (arith, e, c .before .before .before .if2 .left);
         kept = alike-set _ _ _ _ (omega (arith, q .train, q .laid .n));
         steady = steady-refl _ _;
       }
 
   t-carry-requires : try-choice-lts.Need-carry-requires (try-calls t) (try-choice-at t) try-choice.Post
   t-carry-requires c κs =
-      let q = c .before .before .before .before .before .before .before .before .pre .1 in
-      record { block = q .block; at = carrying-at (q .at) }
+      let s = c .before .before .before .before .before .before .before .before in
+      let q = s .pre .1 in
+      let low : s .args .total .0 < wall = omega (arith, q .low, c .before .before .before .before .before .before .number .ensures, c .before .before .before .before .if2 .left) in
+      record { block = q .block; at = carrying-at (q .at) low }
 
   t-open-train-requires : try-choice-lts.Need-open-train-requires (try-calls t) (try-choice-at t) try-choice.Post
   t-open-train-requires c κs =
       let s = c .before .before .before .before .before .before .before .before .before .before .before .before .before in
       let q = s .pre .1 in
       let p = q .at in
-      let h : s .args .t + 1 < trains (q .block) = omega (arith, p .train, p .laid .n, c .before .before .before .before .before .before .before .if3 .left) in (
+      let h : s .args .t + 1 < trains (q .block) = omega (arith, p .train, p .laid .n, c .before .before .before .before .before .before .before .if3 .left) in
+      let low : s .args .total .0 < wall = omega (arith, q .low, c .before .before .before .before .before .before .before .before .before .before .before .number .ensures, c .before .before .before .before .before .before .before .before .before .if2 .left) in (
         omega (arith, p .choice, p .laid .sizes (s .args .t) (p .train)),
-        record { block = q .block; at = record { study = p .study; laid = p .laid; train = h; decided = p .decided; summed = c .before .before .before .before .carry .ensures .summed (q .block) (carrying-at p) } },
+        record {
+          block = q .block;
+          at = record { study = p .study; laid = p .laid; train = h; decided = p .decided low; summed = c .before .before .before .before .carry .ensures .summed (q .block) (carrying-at p low) };
+          low = q .low;
+        },
       )
 
   t-returns-4 : try-choice-lts.Need-returns-4 (try-calls t) (try-choice-at t) try-choice.Post
@@ -254,12 +268,14 @@ module _ (t : ℕ) where
       let q = o .at in
       let r = c .open-train .ensures in
       let d = c .before .before .before .before .before .carry .ensures in
+      let low : s .args .total .0 < wall = omega (arith, o .low, c .before .before .before .before .before .before .before .before .before .before .before .before .number .ensures, c .before .before .before .before .before .before .before .before .before .before .if2 .left) in
       record {
         walk = λ b budget p m.
             let h : s .args .t + 1 < trains b = omega (arith, p .train, p .laid .n, c .before .before .before .before .before .before .before .before .if3 .left) in
-            held-opens b budget (s .args .t) (s .args .a) (s .args .total .0) (s .args .left) (s .args .best .now) (s .args .chosen .now) (s .args .plan .now) m (trying-low p) (c .before .before .before .before .before .before .before .before .before .before .before .before .before .if1 .left) (rw (c .before .before .before .before .before .before .before .before .before .before .before .before .number .ensures) at (c .before .before .before .before .before .before .before .before .before .before .if2 .left)) h
-            (r .walk b budget (record { study = p .study; laid = p .laid; train = h; decided = p .decided; summed = d .summed b (carrying-at p) }) (omega arith));
+            held-opens b budget (s .args .t) (s .args .a) (s .args .total .0) (s .args .left) (s .args .best .now) (s .args .chosen .now) (s .args .plan .now) m (o .low) (c .before .before .before .before .before .before .before .before .before .before .before .before .before .if1 .left) (rw (c .before .before .before .before .before .before .before .before .before .before .before .before .number .ensures) at (c .before .before .before .before .before .before .before .before .before .before .if2 .left)) (p .study) h (p .decided low)
+            (r .walk b budget (record { study = p .study; laid = p .laid; train = h; decided = p .decided low; summed = d .summed b (carrying-at p low) }) (omega arith));
         fewer = omega (arith, r .fewer);
+        lower = omega (arith, r .lower);
         kept = alike-trans (alike-set _ _ _ _ (omega (arith, q .train, q .laid .n))) (alike-less (r .kept));
         steady = steady-trans (d .steady)
             (steady-less (begin-next (o .block) (s .args .t) _ _ (q .laid .begins (s .args .t) (omega (arith, q .train))) (q .laid .begins (s .args .t + 1) (omega (arith, q .train)))) (r .steady));

@@ -7,13 +7,13 @@ use native.Mathlib.Omega.{arith}
 use Rattle.theory.specs.Range.{all}
 use Rattle.theory.proofs.Range.{refused, passed, all-zero, all-more, all-false}
 use Rattle.tables.specs.Block.{maxTrains}
-use Rattle.tables.specs.WellFormed.{fromTo}
+use Rattle.tables.specs.WellFormed.{costTo}
 use Rattle.tables.proofs.Rows.{choiceRow, choices-rows, choices-most}
 use Rattle.tables.proofs.well_formed.choices_within.Statement.{statement}
 use Rattle.tables.proofs.well_formed.choices_within.Tie as tie
 
 abbrev Inv-loop : tie.InvT-loop
-Inv-loop b from high i₀ i = (i ≤ maxTrains) × (all i (choiceRow b from (fromTo 0 high)) ≡ true)
+Inv-loop b from high i₀ i = (i ≤ maxTrains) × (all i (choiceRow b from (costTo high)) ≡ true)
 
 abbrev μ-loop : tie.MeasureT-loop
 μ-loop b from high i₀ i = maxTrains - i
@@ -39,14 +39,14 @@ row-within-requires c κs =
 -- the call answers for the row of train i
 row : (c : tie.After-row-within Inv-loop μ-loop)
     → c .row-within .result
-    ≡ choiceRow (c .before .before .before .before .args .b .now) (c .before .before .before .before .args .from) (fromTo 0 (c .before .before .before .before .args .high)) (c .before .before .before .loop .i)
+    ≡ choiceRow (c .before .before .before .before .args .b .now) (c .before .before .before .before .args .from) (costTo (c .before .before .before .before .args .high)) (c .before .before .before .loop .i)
 row c = rw (c .before .choices-used .ensures) at (c .row-within .ensures)
 
 returns : tie.Need-returns Inv-loop μ-loop
 returns c =
     let l = c .before .before .before .before in
     let a = l .before .args in
-    sym (choices-rows (a .b .now) (a .from) (fromTo 0 (a .high)) ∙ all-false _ _ (l .loop .i) (omega arith) (refused (row (c .before)) (c .if1 .taken)))
+    sym (choices-rows (a .b .now) (a .from) (costTo (a .high)) ∙ all-false _ _ (l .loop .i) (omega arith) (refused (row (c .before)) (c .if1 .taken)))
 
 add-i : tie.Need-add-i Inv-loop μ-loop
 add-i c = search needs
@@ -62,7 +62,7 @@ returns-2 c =
     let l = c .before .loop in
     let a = c .before .before .args in
     let e : l .i ≡ maxTrains = omega arith in
-    sym (choices-rows (a .b .now) (a .from) (fromTo 0 (a .high)) ∙ (rw e at (l .inv .1)))
+    sym (choices-rows (a .b .now) (a .from) (costTo (a .high)) ∙ (rw e at (l .inv .1)))
 
 pub choices-within-spec : {M : Type 1} → statement M
 choices-within-spec =

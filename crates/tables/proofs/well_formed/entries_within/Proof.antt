@@ -7,14 +7,14 @@ use native.Mathlib.Omega.{arith}
 use Rattle.theory.specs.Range.{all}
 use Rattle.theory.proofs.Range.{refused, passed, all-zero, all-more, all-false}
 use Rattle.tables.specs.Block.{maxPairs}
-use Rattle.tables.specs.WellFormed.{fromTo}
+use Rattle.tables.specs.WellFormed.{costTo}
 use Rattle.tables.specs.Rows.{pairWithin}
 use Rattle.tables.proofs.Rows.{entries-rows}
 use Rattle.tables.proofs.well_formed.entries_within.Statement.{statement}
 use Rattle.tables.proofs.well_formed.entries_within.Tie as tie
 
 abbrev Inv-loop : tie.InvT-loop
-Inv-loop b from high k₀ k = (k ≤ maxPairs) × (all k (λ j. pairWithin b from j (fromTo 0 high)) ≡ true)
+Inv-loop b from high k₀ k = (k ≤ maxPairs) × (all k (λ j. pairWithin b from j (costTo high)) ≡ true)
 
 abbrev μ-loop : tie.MeasureT-loop
 μ-loop b from high k₀ k = maxPairs - k
@@ -29,7 +29,7 @@ returns : tie.Need-returns Inv-loop μ-loop
 returns c =
     let l = c .before .before .before in
     let a = l .before .args in
-    sym (entries-rows (a .b .now) (a .from) (fromTo 0 (a .high)) ∙ all-false _ _ (l .loop .k) (omega arith) (refused (c .before .pair-within .ensures) (c .if1 .taken)))
+    sym (entries-rows (a .b .now) (a .from) (costTo (a .high)) ∙ all-false _ _ (l .loop .k) (omega arith) (refused (c .before .pair-within .ensures) (c .if1 .taken)))
 
 add-k : tie.Need-add-k Inv-loop μ-loop
 add-k c = search needs
@@ -45,7 +45,7 @@ returns-2 c =
     let l = c .before .loop in
     let a = c .before .before .args in
     let e : l .k ≡ maxPairs = omega arith in
-    sym (entries-rows (a .b .now) (a .from) (fromTo 0 (a .high)) ∙ (rw e at (l .inv .1)))
+    sym (entries-rows (a .b .now) (a .from) (costTo (a .high)) ∙ (rw e at (l .inv .1)))
 
 pub entries-within-spec : {M : Type 1} → statement M
 entries-within-spec =

@@ -1,11 +1,11 @@
 -- The places are the shape and four tables. The shape is asked first, so that the sizes by which the tables are read are within their limits.
 use borrow.Author.Needs.{needs}
-use mathlib.Core.Path.{_≡_, sym, _∙_}
-use mathlib.Core.Bool.{true, and-false, and-true}
+use mathlib.Core.Path.{_≡_}
+use mathlib.Core.Bool.{true, and-false}
 use native.Mathlib.Omega.{arith}
 use Rattle.theory.proofs.Range.{refused, passed}
 use Rattle.tables.specs.Block.{maxCost, maxParts, loadedChoicesFrom, heldChoicesFrom, loadedEntriesFrom}
-use Rattle.tables.specs.WellFormed.{fromTo, placesRight, pairsRight, holdsStudy}
+use Rattle.tables.specs.WellFormed.{costTo, placesRight, pairsRight, holdsStudy}
 use Rattle.tables.specs.Rows.{shapeRight, choicesWithin, entriesWithin}
 use Rattle.tables.proofs.Rows.{places-tables, head-most}
 use Rattle.tables.proofs.well_formed.holds_study.Statement.{statement}
@@ -26,7 +26,8 @@ pairs-right-requires c κs = omega (arith, head-most (c .before .before .args .b
 
 returns-2 : tie.Need-returns-2
 unfolding holdsStudy
-returns-2 c = rw (refused (c .before .pairs-right .ensures) (c .if2 .taken)) (sym (and-false (placesRight _)))
+returns-2 c =
+    rw (refused (c .before .pairs-right .ensures) (c .if2 .taken), and-false (placesRight (c .before .before .before .before .args .b .now)))
 
 ordered : (c : tie.Else2) → pairsRight (c .before .before .before .before .args .b .now) ≡ true
 ordered c = passed (c .before .pairs-right .ensures) (c .if2 .left)
@@ -44,7 +45,7 @@ returns-3 c =
     let d = n .before .before .before in
     rw (places-tables (d .before .before .args .b .now) (d .before .before .pre), shape d, rw (n .number .ensures) at (refused (c .before .choices-within .ensures) (c .if3 .taken)))
 
-loaded-choices : (c : tie.Else3) → choicesWithin (c .before .before .before .before .before .before .before .args .b .now) loadedChoicesFrom (fromTo 0 maxCost) ≡ true
+loaded-choices : (c : tie.Else3) → choicesWithin (c .before .before .before .before .before .before .before .args .b .now) loadedChoicesFrom (costTo maxCost) ≡ true
 loaded-choices c = rw (c .before .before .number .ensures) at (passed (c .before .choices-within .ensures) (c .if3 .left))
 
 number-requires-2 : tie.Need-number-requires-2
@@ -61,7 +62,7 @@ returns-4 c =
     let d = f .before .before .before .before .before in
     rw (places-tables (d .before .before .args .b .now) (d .before .before .pre), shape d, loaded-choices f, rw (n .number2 .ensures) at (refused (c .before .choices-within2 .ensures) (c .if4 .taken)))
 
-held-choices : (c : tie.Else4) → choicesWithin (c .before .before .before .before .before .before .before .before .before .before .args .b .now) heldChoicesFrom (fromTo 0 maxParts) ≡ true
+held-choices : (c : tie.Else4) → choicesWithin (c .before .before .before .before .before .before .before .before .before .before .args .b .now) heldChoicesFrom (costTo maxParts) ≡ true
 held-choices c = rw (c .before .before .number2 .ensures) at (passed (c .before .choices-within2 .ensures) (c .if4 .left))
 
 number-requires-3 : tie.Need-number-requires-3
@@ -79,7 +80,7 @@ returns-5 c =
     let d = f .before .before .before .before .before in
     rw (places-tables (d .before .before .args .b .now) (d .before .before .pre), shape d, loaded-choices f, held-choices g, rw (n .number3 .ensures) at (refused (c .before .entries-within .ensures) (c .if5 .taken)))
 
-loaded-entries : (c : tie.Else5) → entriesWithin (c .before .before .before .before .before .before .before .before .before .before .before .before .before .args .b .now) loadedEntriesFrom (fromTo 0 maxCost) ≡ true
+loaded-entries : (c : tie.Else5) → entriesWithin (c .before .before .before .before .before .before .before .before .before .before .before .before .before .args .b .now) loadedEntriesFrom (costTo maxCost) ≡ true
 loaded-entries c = rw (c .before .before .number3 .ensures) at (passed (c .before .entries-within .ensures) (c .if5 .left))
 
 number-requires-4 : tie.Need-number-requires-4
@@ -91,13 +92,35 @@ entries-within-requires-2 c κs = let d = c .before .before .before .before .bef
 returns-6 : tie.Need-returns-6
 unfolding holdsStudy
 returns-6 c =
-    let h = c .before .before in
+    let n = c .before .before in
+    let h = n .before in
     let g = h .before .before .before in
     let f = g .before .before .before in
-    let e = f .before .before .before in
-    let d = e .before .before in
-    rw (places-tables (d .before .before .args .b .now) (d .before .before .pre), shape d, loaded-choices f, held-choices g, loaded-entries h, ordered e)
-    (rw (c .before .number4 .ensures) at (c .entries-within2 .ensures) ∙ sym (and-true _))
+    let d = f .before .before .before .before .before in
+    rw (places-tables (d .before .before .args .b .now) (d .before .before .pre), shape d, loaded-choices f, held-choices g, loaded-entries h, rw (n .number4 .ensures) at (refused (c .before .entries-within2 .ensures) (c .if6 .taken)))
+
+right : (c : tie.Else6) → placesRight (c .before .before .before .before .before .before .before .before .before .before .before .before .before .before .before .before .args .b .now) ≡ true
+right c =
+    let n = c .before .before in
+    let h = n .before in
+    let g = h .before .before .before in
+    let f = g .before .before .before in
+    let d = f .before .before .before .before .before in
+    rw (
+      places-tables (d .before .before .args .b .now) (d .before .before .pre),
+      shape d,
+      loaded-choices f,
+      held-choices g,
+      loaded-entries h,
+      rw (n .number4 .ensures) at (passed (c .before .entries-within2 .ensures) (c .if6 .left)),
+    )
+
+mated-requires : tie.Need-mated-requires
+mated-requires c κs = let s = c .before .before .before .before .before .before .before .before .before .before .before .before .before .before .before .before in (s .pre, right c)
+
+returns-7 : tie.Need-returns-7
+unfolding holdsStudy
+returns-7 c = rw (right (c .before), ordered (c .before .before .before .before .before .before .before .before .before .before .before .before .before)) (c .mated .ensures)
 
 pub holds-study-spec : {M : Type 1} → statement M
 holds-study-spec =
@@ -118,4 +141,6 @@ holds-study-spec =
     returns-5
     number-requires-4
     entries-within-requires-2
-    returns-6)
+    returns-6
+    mated-requires
+    returns-7)

@@ -7,13 +7,13 @@ use native.Mathlib.Omega.{arith}
 use Rattle.theory.specs.Range.{all}
 use Rattle.theory.proofs.Range.{refused, passed, all-zero, all-more, all-false}
 use Rattle.tables.specs.Block.{maxChoices}
-use Rattle.tables.specs.WellFormed.{fromTo}
+use Rattle.tables.specs.WellFormed.{costTo}
 use Rattle.tables.proofs.Rows.{entryRow, pair-rows, pair-absent, entries-most}
 use Rattle.tables.proofs.well_formed.pair_within.Statement.{statement}
 use Rattle.tables.proofs.well_formed.pair_within.Tie as tie
 
 abbrev Inv-loop : tie.InvT-loop
-Inv-loop b from k high a₀ a = (a ≤ maxChoices) × (all a (entryRow b from (fromTo 0 high) k) ≡ true)
+Inv-loop b from k high a₀ a = (a ≤ maxChoices) × (all a (entryRow b from (costTo high) k) ≡ true)
 
 abbrev μ-loop : tie.MeasureT-loop
 μ-loop b from k high a₀ a = maxChoices - a
@@ -34,7 +34,7 @@ returns : tie.Need-returns Inv-loop μ-loop
 returns c =
     let p = c .before .before in
     let a = p .before .args in
-    c .all-zero .ensures ∙ sym (pair-absent (a .b .now) (a .from) (fromTo 0 (a .high)) (a .k) (omega (arith, p .pairs .ensures, c .before .if1 .taken)))
+    c .all-zero .ensures ∙ sym (pair-absent (a .b .now) (a .from) (costTo (a .high)) (a .k) (omega (arith, p .pairs .ensures, c .before .if1 .taken)))
 
 loop-holds : tie.Need-loop-holds Inv-loop μ-loop
 loop-holds c = (omega arith, all-zero _)
@@ -63,14 +63,14 @@ row-within-requires c κs =
 -- the call answers for row a
 row : (c : tie.After-row-within Inv-loop μ-loop)
     → c .row-within .result
-    ≡ entryRow (c .before .before .before .before .before .before .args .b .now) (c .before .before .before .before .before .before .args .from) (fromTo 0 (c .before .before .before .before .before .before .args .high)) (c .before .before .before .before .before .before .args .k) (c .before .before .before .loop .a)
+    ≡ entryRow (c .before .before .before .before .before .before .args .b .now) (c .before .before .before .before .before .before .args .from) (costTo (c .before .before .before .before .before .before .args .high)) (c .before .before .before .before .before .before .args .k) (c .before .before .before .loop .a)
 row c = rw (c .before .entries-used .ensures) at (c .row-within .ensures)
 
 returns-2 : tie.Need-returns-2 Inv-loop μ-loop
 returns-2 c =
     let l = c .before .before .before .before in
     let a = l .before .before .before .args in
-    sym (pair-rows (a .b .now) (a .from) (fromTo 0 (a .high)) (a .k) ∙ all-false _ _ (l .loop .a) (omega arith) (refused (row (c .before)) (c .if2 .taken)))
+    sym (pair-rows (a .b .now) (a .from) (costTo (a .high)) (a .k) ∙ all-false _ _ (l .loop .a) (omega arith) (refused (row (c .before)) (c .if2 .taken)))
 
 add-a : tie.Need-add-a Inv-loop μ-loop
 add-a c = search needs
@@ -86,7 +86,7 @@ returns-3 c =
     let l = c .before .loop in
     let a = c .before .before .before .before .args in
     let e : l .a ≡ maxChoices = omega arith in
-    sym (pair-rows (a .b .now) (a .from) (fromTo 0 (a .high)) (a .k) ∙ (rw e at (l .inv .1)))
+    sym (pair-rows (a .b .now) (a .from) (costTo (a .high)) (a .k) ∙ (rw e at (l .inv .1)))
 
 pub pair-within-spec : {M : Type 1} → statement M
 pair-within-spec =

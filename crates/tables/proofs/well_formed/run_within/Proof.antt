@@ -5,16 +5,16 @@ use mathlib.Core.Bool.{true}
 use Prim.Native.Nat.{_-_, _≤_}
 use native.Mathlib.Omega.{arith}
 use Rattle.theory.proofs.Range.{refused, passed, all-zero, all-more, all-false}
-use Rattle.tables.specs.WellFormed.{fromTo}
+use Rattle.tables.specs.WellFormed.{limits}
 use Rattle.tables.specs.Rows.{runWithin}
 use Rattle.tables.proofs.well_formed.run_within.Statement.{statement}
 use Rattle.tables.proofs.well_formed.run_within.Tie as tie
 
 abbrev Inv-loop : tie.InvT-loop
-Inv-loop b from count low high k₀ k = (k ≤ count) × (runWithin b from k (fromTo low high) ≡ true)
+Inv-loop b from count low high closable k₀ k = (k ≤ count) × (runWithin b from k (limits low high closable) ≡ true)
 
 abbrev μ-loop : tie.MeasureT-loop
-μ-loop b from count low high k₀ k = count - k
+μ-loop b from count low high closable k₀ k = count - k
 
 loop-holds : tie.Need-loop-holds Inv-loop μ-loop
 loop-holds c = (omega arith, all-zero _)
