@@ -38,6 +38,9 @@ type Row = [u64; CHOICES];
 /// What the walk reads of a study.
 struct Table {
     last: usize,
+    scale: u64,
+    /// The published bound.
+    bound: u64,
     sizes: [usize; TRAINS],
     /// By train: the row in which it is summed when it is opened.
     ends: [usize; TRAINS],
@@ -53,6 +56,8 @@ struct Table {
 struct Walk {
     spent: bool,
     best: u64,
+    /// The tries left where the walk met the bound.
+    met: Option<u64>,
     chosen: [u8; PLAN],
     plan: [u8; PLAN],
     sums: [Row; ROWS],
@@ -67,7 +72,8 @@ pub fn answer(line: &[u8], block: &mut [i64], reply: &mut [u8]) -> usize {
     let mut walk = Walk::NEW;
     walk.lay_own(block);
     let left = walk.open(&table, 0, block[CONSTANT] as u64, budget);
-    write_reply(block, &walk, budget - left, reply)
+    walk.spent &= walk.met.is_none();
+    write_reply(block, &walk, budget - walk.met.unwrap_or(left), reply)
 }
 
 fn number(digits: &[u8]) -> u64 {
@@ -102,6 +108,8 @@ fn row_at(block: &[i64], place: usize) -> Row {
 impl Table {
     const EMPTY: Self = Self {
         last: 0,
+        scale: 1,
+        bound: 0,
         sizes: [0; TRAINS],
         ends: [0; TRAINS],
         begins: [0; TRAINS + 1],
@@ -113,6 +121,8 @@ impl Table {
     fn lay(&mut self, block: &[i64]) {
         let (n, m) = (block[TRAIN_COUNT] as usize, block[PAIR_COUNT] as usize);
         self.last = n - 1;
+        self.scale = block[SCALE] as u64;
+        self.bound = (block[CONSTANT] as u64).div_ceil(self.scale);
         for train in 0..n {
             self.sizes[train] = block[SIZES + train] as usize;
             self.ends[train] = train;
@@ -137,6 +147,7 @@ impl Walk {
     const NEW: Self = Self {
         spent: false,
         best: UNKNOWN,
+        met: None,
         chosen: [0; PLAN],
         // "With no plan yet, cost and plan are all FF."
         plan: [0xFF; PLAN],
@@ -162,8 +173,7 @@ impl Walk {
             if total < self.best {
                 self.chosen[train] = choice as u8;
                 if train == table.last {
-                    self.best = total;
-                    self.plan = self.chosen;
+                    left = self.improve(table, total, left);
                     continue;
                 }
                 self.carry(table, train, choice);
@@ -171,6 +181,17 @@ impl Walk {
             }
         }
         left
+    }
+
+    /// Keeps a plan that becomes the best. Where its cost is the bound, no tries are left, so that all stops.
+    fn improve(&mut self, table: &Table, total: u64, left: u64) -> u64 {
+        self.best = total;
+        self.plan = self.chosen;
+        if total.div_ceil(table.scale) != table.bound {
+            return left;
+        }
+        self.met = Some(left);
+        0
     }
 
     /// Carries a choice to the rows of the pairs that its train begins.

@@ -1,5 +1,5 @@
-//! The claims of "Lists and the ledger", of saves, of rounds and of forbidden entries, checked from the outside by every
-//! plan of small studies.
+//! The claims of "Lists and the ledger", of saves, of rounds, of forbidden entries and of stopping at the bound, checked
+//! from the outside by every plan of small studies.
 
 use crate::generator::{Reach, Session};
 use crate::lines;
@@ -7,6 +7,7 @@ use crate::model::{Cost, Costs, Pair, Study, BLOCK_LENGTH, FORBIDDEN};
 use crate::random::Random;
 use crate::rewriting::Rewriting;
 use crate::saves::Saves;
+use crate::stops::Stops;
 use crate::Service;
 
 /// How often each claim was put to the test.
@@ -27,6 +28,7 @@ pub struct Tally {
     pub spent_with_plan: usize,
     pub spent_without: usize,
     pub forbidden: Forbidden,
+    pub stops: Stops,
     pub saves: Saves,
 }
 
@@ -63,17 +65,17 @@ pub struct Forbidden {
 }
 
 /// A line's or a reply's bytes, read without judging: only accepted ones come here.
-struct Reader<'a>(&'a [u8]);
+pub(crate) struct Reader<'a>(pub(crate) &'a [u8]);
 
 impl Reader<'_> {
-    fn number(&mut self, width: usize) -> i64 {
+    pub(crate) fn number(&mut self, width: usize) -> i64 {
         let (front, rest) = self.0.split_at(2 * width);
         self.0 = rest;
         let text = std::str::from_utf8(front).expect("digits");
         i64::from_str_radix(text, 16).expect("digits")
     }
 
-    fn numbers(&mut self, width: usize, count: usize) -> Vec<i64> {
+    pub(crate) fn numbers(&mut self, width: usize, count: usize) -> Vec<i64> {
         (0..count).map(|_| self.number(width)).collect()
     }
 
@@ -401,7 +403,10 @@ impl Step<'_> {
                 tally.saves.check_saved(service, block, reply)
             }
             Some(b"85") => ledger.check_certificate(reply, block[3], plans, random, tally),
-            Some(b"86") => ledger.check_search(reply, plans, tally),
+            Some(b"86") => {
+                ledger.check_search(reply, plans, tally)?;
+                tally.stops.check(block, line, reply)
+            }
             Some(shown) => {
                 if shown == b"81" {
                     tally.saves.check_load(service, block, line)?;

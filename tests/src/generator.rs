@@ -291,7 +291,7 @@ impl Session {
                 rewriting.flood(random.pick(&[0, 0, 100, TOP / 50]));
                 (0..random.pick(&[1, 1, 2, 10])).for_each(|_| rewriting.sweep());
             }
-            5 | 6 if !study.permits_all() => rewriting.flood(TOP - random.pick(&[0, 0, 0, 1, TOP / 2])),
+            5..=7 if !study.permits_all() => rewriting.flood(TOP - random.pick(&[0, 0, 0, 1, TOP / 2])),
             3 | 4 => (0..random.between(1, 3)).for_each(|_| rewriting.give_back(random)),
             _ => (0..random.below(2 + 4 * study.trains.len())).for_each(|_| rewriting.step(random)),
         }
@@ -336,16 +336,26 @@ impl Session {
         let random = &mut self.random;
         let n = study.trains.len() as i64;
         let plans: f64 = study.trains.iter().map(|costs| costs.columns as f64).product();
-        match random.below(10) {
+        match random.below(11) {
             0 => 1,
             1 => n - 1,
             2 => n,
             3 => random.between(1, 50),
             4 => random.between(1, 2_000),
             5 => random.between(1, 30_000),
-            6 | 7 => search::walk(study, 30_000).count - random.between(0, 1),
-            8 if plans < 5e3 => 10_000_000,
-            8 => 10_000,
+            // The tries of the walk, one less, fewer, and some that document 01's walk spends behind the bound.
+            6..=8 => {
+                let count = search::walk(study, 30_000, Some(study.bound())).count;
+                let fewer = random.between(n.min(count), count);
+                let more = random.pick(&[-1, -1, 0, 0, 1, 2, 4]);
+                if random.chance(45) {
+                    fewer
+                } else {
+                    count + more
+                }
+            }
+            9 if plans < 5e3 => 10_000_000,
+            9 => 10_000,
             _ => random.pick(&[0, 10_000_001, 0xFFFF_FFFF, 10_000]),
         }
     }

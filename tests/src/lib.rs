@@ -12,11 +12,13 @@ pub mod random;
 pub mod rewriting;
 pub mod saves;
 pub mod search;
+pub mod stops;
 pub mod studies;
 pub mod weights;
 
 use lines::{Fields, Kind, LONGEST_LINE};
 use model::{Refusal, Study, BLOCK_LENGTH};
+use search::End;
 use std::error::Error;
 use std::io::{self, BufRead, Write};
 use std::process::ExitCode;
@@ -100,7 +102,7 @@ fn hold(code: u8, study: &Study, block: &mut [i64]) -> Vec<u8> {
     study.encode(block);
     let mut bytes = vec![code];
     lines::put(&mut bytes, 6, study.constant);
-    lines::put(&mut bytes, 6, study.points(study.constant));
+    lines::put(&mut bytes, 6, study.bound());
     bytes
 }
 
@@ -118,11 +120,11 @@ fn certify(study: &Study, fields: Fields) -> Result<Vec<u8>, Refusal> {
 /// "Search: 86, 01 ended or 00 spent, count (4), cost (6), one byte a train." "A search that ends without a plan says
 /// 02, with cost and plan FF."
 fn search(study: &Study, fields: Fields) -> Result<Vec<u8>, Refusal> {
-    let walk = search::walk(study, lines::budget(fields)?);
-    let flag = match (walk.ended, &walk.best) {
-        (false, _) => 0,
-        (true, Some(_)) => 1,
-        (true, None) => 2,
+    let walk = search::walk(study, lines::budget(fields)?, Some(study.bound()));
+    let flag = match (walk.end, &walk.best) {
+        (End::Spent, _) => 0,
+        (_, Some(_)) => 1,
+        (_, None) => 2,
     };
     let mut bytes = vec![0x86, flag];
     lines::put(&mut bytes, 4, walk.count);

@@ -135,6 +135,11 @@ impl Study {
         (parts + self.scale - 1) / self.scale
     }
 
+    /// "The published bound is the least whole number of points not below c0."
+    pub fn bound(&self) -> i64 {
+        self.points(self.constant)
+    }
+
     /// "Every train has at most one partner of lower number": no two pairs have the same second train.
     pub fn branches(&self) -> bool {
         let mut seconds: Vec<usize> = self.pairs.iter().map(|pair| pair.trains[1]).collect();

@@ -5,10 +5,23 @@ use crate::model::{Costs, Study};
 pub struct Best {
     pub total: i64,
     pub plan: Vec<usize>,
+    /// The count of the try that made it the best.
+    pub found: i64,
+}
+
+/// How a walk ends.
+#[derive(Clone, Copy, Debug, PartialEq, Eq)]
+pub enum End {
+    /// "The walk is spent."
+    Spent,
+    /// All tries are made.
+    Tried,
+    /// The new best plan's cost equals the bound.
+    Bound,
 }
 
 pub struct Walk {
-    pub ended: bool,
+    pub end: End,
     pub count: i64,
     pub best: Option<Best>,
 }
@@ -45,9 +58,10 @@ struct Open {
 
 /// "Opening a train tries its choices; trying a choice opens the next train. Trains and choices
 /// ascend." Without recursion: the open trains are 0 to the last of `open`, and all before it are decided.
-pub fn walk(study: &Study, budget: i64) -> Walk {
+/// Without a bound it is document 01's walk, which no cost ends.
+pub fn walk(study: &Study, budget: i64, bound: Option<i64>) -> Walk {
     let partners = Partners::of(study);
-    let mut walk = Walk { ended: false, count: 0, best: None };
+    let mut walk = Walk { end: End::Spent, count: 0, best: None };
     let mut open = vec![Open { before: study.constant, next: 0 }];
     let mut decided = Vec::new();
     while let Some(Open { before, next }) = open.last_mut() {
@@ -73,12 +87,18 @@ pub fn walk(study: &Study, budget: i64) -> Walk {
         }
         // "A whole plan not dropped becomes the best."
         if decided.len() + 1 == study.trains.len() {
-            walk.best = Some(Best { total, plan: [&decided[..], &[choice]].concat() });
+            walk.best = Some(Best { total, plan: [&decided[..], &[choice]].concat(), found: walk.count });
+            // "A search should end when a new best plan's cost equals the published bound. That rule and the budget rule
+            // can meet on one try; the bound comes first."
+            if bound == Some(study.points(total)) {
+                walk.end = End::Bound;
+                return walk;
+            }
         } else {
             decided.push(choice);
             open.push(Open { before: total, next: 0 });
         }
     }
-    walk.ended = true;
+    walk.end = End::Tried;
     walk
 }

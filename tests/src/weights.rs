@@ -14,7 +14,7 @@ pub fn mixture(random: &mut Random, study: &Study) -> Certificate {
         weights.push(random.pick(&[100_000, 100_000, 100_001]) - weights.iter().sum::<i64>());
     }
     let mut certificate = weightless(study, weights.iter().sum());
-    let best = if random.chance(60) { search::walk(study, 3_000).best } else { None };
+    let best = if random.chance(60) { search::walk(study, 3_000, None).best } else { None };
     let others = random.pick(&[0, 20, 20]);
     for weight in weights {
         let plan: Vec<usize> = match &best {

@@ -1,5 +1,5 @@
 //! The reference against document 01's own examples, and those of the changes: saves, every byte as a digit,
-//! giving back, directional rounds, forbidden entries.
+//! giving back, directional rounds, forbidden entries, stopping at the bound.
 
 use reference::calls::{digest, Call, Setting, FILLING};
 use reference::generator::every_byte;
@@ -15,11 +15,12 @@ const SESSION: &str = "\
 05000001000001000000000000000001000000000001000000000000
 060000000A
 ";
+/// Document 01's replies, the last as change 6 has it: "Case 4 now counts 3."
 const REPLIES: &str = "\
 81000000000000000000000000
 84000000000002000000000002
 85010000000000000002000001
-8601000000040000000000020001
+8601000000030000000000020001
 ";
 
 /// The sixteen characters of a line.
@@ -114,7 +115,8 @@ fn the_marked_cases() {
     assert_eq!(replies(&four), REPLIES.lines().collect::<Vec<_>>());
     assert_eq!(last(&[J, "060000000A"]), "8601000000060000000000020001");
     assert_eq!(last(&[J, CERTIFICATE]), "85000000000000000002000001");
-    assert_eq!(last(&[J, "04", "0600000003"]), "8600000000030000000000020001");
+    // Change 6: "Case 7 says ended with count 3."
+    assert_eq!(last(&[J, "04", "0600000003"]), "8601000000030000000000020001");
     assert_eq!(last(&[J, "0600000001"]), "860000000001FFFFFFFFFFFFFFFF");
     let with_move = shift([2, 0, 0, 2, 0, 0]);
     assert_eq!(last(&[J, &with_move]), "83000000000002000000000002");
@@ -280,12 +282,12 @@ fn rounds() {
     let least = "88000000000001000000000001";
     assert_eq!(
         replies(&[A, "04", "08", "06000003E8", "08"]),
-        [ZERO, "84000000000000000000000000", least, "8601000000040000000000010000", least]
+        [ZERO, "84000000000000000000000000", least, "8601000000020000000000010000", least]
     );
     let with_scale = A.replacen("01020001", "01020002", 1);
     assert_eq!(last(&[&with_scale, "08"]), "88000000000002000000000001");
     assert_eq!(last(&[J, "08"]), "88000000000002000000000002");
-    assert_eq!(last(&[J, "08", "060000000A"]), "8601000000040000000000020001");
+    assert_eq!(last(&[J, "08", "060000000A"]), "8601000000030000000000020001");
     assert_eq!(last(&["010100030200000500000200", "08"]), "88000000000006000000000002");
     assert_eq!(last(&["01020001020100000500000200000300", "08"]), "88000000000005000000000005");
     assert_eq!(last(&["08"]), "FF04");
@@ -301,7 +303,7 @@ fn rounds_settle_branches() {
         "0104000202020202000001000000000002000003000000000002000001000000030001000002000002000002000001\
                             00020000000000030000020000000203000000000002000003000001";
     assert_eq!(last(&[BRANCHES, "04"]), "84000000000006000000000003");
-    round(BRANCHES, "8800000000000C000000000006", "86010000000800000000000600000000");
+    round(BRANCHES, "8800000000000C000000000006", "86010000000400000000000600000000");
     // Pairs 0–2 and 1–2: a tree, but train 2 has two partners of lower number.
     const TWO_PARTNERS: &str =
         "01030001020202000001000002000002000002000002000000020002000001000002000002000000010200000200000\
@@ -374,8 +376,11 @@ fn the_clique() {
 #[test]
 fn forbidden_choices() {
     let two = "000000000002000000000002";
-    let search = "8601000000040000000000020001";
-    assert_eq!(replies(&[D, "060000000A", "04", "060000000A"]), [ZERO, search, &format!("84{two}"), search]);
+    let [search, at_the_bound] = ["8601000000040000000000020001", "8601000000030000000000020001"];
+    assert_eq!(
+        replies(&[D, "060000000A", "04", "060000000A"]),
+        [ZERO, search, &format!("84{two}"), at_the_bound]
+    );
     let lines = [D, "04", "020001000005", "020001FFFFFF", "020000000001", "07"];
     let added = D.replacen("000002", "000003", 1);
     let [tightened, same] = ["84", "82"].map(|kind| format!("{kind}{two}"));
@@ -465,6 +470,49 @@ fn forbidden_entries_of_the_block() {
     assert_eq!(judged("125=0,317=0"), "8601000000060000000000020001");
     assert_eq!(judged("508=-1,3580=-1"), "8601000000040000000000020001");
     assert_eq!(judged("124=-1,316=-1"), "860200000002FFFFFFFFFFFFFFFF");
+}
+
+/// Change 6: a search ends when a new best plan's cost equals the bound, also by the last try of its budget.
+#[test]
+fn searches_stop_at_the_bound() {
+    assert_eq!(last(&[J, "04", "060000000A"]), "8601000000030000000000020001");
+    assert_eq!(last(&[J, "04", "0600000003"]), "8601000000030000000000020001");
+    assert_eq!(last(&[J, "04", "0600000002"]), "8600000000020000000000030000");
+    // The bound is 0, and no plan costs 0.
+    assert_eq!(last(&[J, "060000000A"]), "8601000000060000000000020001");
+    // One train, a scale of 3, and a first choice that costs 0.
+    assert_eq!(last(&["010100030300000000000100000000", "0600000001"]), "86010000000100000000000000");
+    // One part of the constant publishes 1, which choice 1 costs.
+    const UNEQUAL: &str = "010100030300000200000100000100";
+    assert_eq!(last(&[UNEQUAL, "03000000000001", "0600000002"]), "86010000000200000000000101");
+    assert_eq!(last(&[UNEQUAL, "03000000000001", "0600000001"]), "86000000000100000000000200");
+    // No plan, and a bound of 0.
+    const NO_PLAN: &str = "010200010202FFFFFF000000000000000000010001000000000000FFFFFFFFFFFF";
+    assert_eq!(last(&[NO_PLAN, "0600000004"]), "860200000004FFFFFFFFFFFFFFFF");
+    // D's choice 1 of train 0 is not tried once plan 0 1 has met the bound.
+    assert_eq!(last(&[D, "04", "0600000003"]), "8601000000030000000000020001");
+}
+
+/// Change 6 on blocks written by hand: points are compared with points, and only equality ends the walk.
+#[test]
+fn searches_of_given_tables() {
+    let searched = |load: &str, edits: &str, line: &str| {
+        let mut block = vec![0; BLOCK_LENGTH];
+        [load, "04"].iter().for_each(|line| {
+            reference::answer(line.as_bytes(), &mut block, &mut [0; LEAST_BUFFER]);
+        });
+        let call = Call::parse(format!("{LEAST_BUFFER} {edits} {line}").as_bytes()).unwrap();
+        String::from_utf8(call.run(reference::answer, &mut block).reply().to_vec()).unwrap()
+    };
+    // A scale of 2 and a constant of 3 parts, so that plan 0 0 has 3 parts: its cost is the bound, 2.
+    assert_eq!(searched(J, "1=2,3=3", "060000000A"), "8601000000020000000000020000");
+    // One train of two choices, a scale of 2 and a constant of 3: 4 parts and 3 both cost 2, and 5 cost 3.
+    let two = |edits: &str| searched("010100020200000000000000", edits, "060000000A");
+    assert_eq!(two("3=3,316=1,317=0"), "86010000000100000000000200");
+    assert_eq!(two("3=3,316=2,317=1"), "86010000000200000000000201");
+    assert_eq!(two("3=3,316=2,317=2"), "86010000000200000000000300");
+    // A total of 2 parts costs 1 point; the bound is 1, as many as the parts of no plan.
+    assert_eq!(two("3=2,316=0,317=0"), "86010000000100000000000100");
 }
 
 /// Points that the document leaves short.

@@ -3,17 +3,11 @@
 use reference::calls::{Call, Outcome, Setting};
 use reference::generator::sessions;
 use reference::model::{decode, Cost, Costs, Study, BLOCK_LENGTH, FORBIDDEN, TOP};
-use std::collections::BTreeMap;
+use seen::Seen;
 
-/// How often each case was seen.
-#[derive(Default)]
-struct Seen(BTreeMap<&'static str, usize>);
+mod seen;
 
 impl Seen {
-    fn count(&mut self, case: &'static str, holds: bool) {
-        *self.0.entry(case).or_default() += usize::from(holds);
-    }
-
     /// Looks at a call, the block that it was given, and what it left.
     fn call(&mut self, call: &Call, given: &[i64], outcome: &Outcome) {
         if let Setting::Edited(edits) = &call.setting {
@@ -205,5 +199,5 @@ fn used(study: &Study, place: usize) -> bool {
 fn the_generator_reaches_forbidden_entries() {
     let mut seen = Seen::default();
     sessions(600, |call, given, outcome| seen.call(call, given, outcome));
-    assert!(seen.0.values().all(|&count| count > 5), "{:#?}", seen.0);
+    seen.each_over(5);
 }

@@ -6,6 +6,7 @@ use reference::lines::{saved, MOVES};
 use reference::model::{decode, Costs, Study, TOP};
 use reference::operations;
 use reference::saves::Saves;
+use reference::stops::Stops;
 use reference::LEAST_BUFFER;
 use std::cmp::Ordering;
 use std::collections::BTreeMap;
@@ -23,6 +24,9 @@ fn the_claims_hold_by_every_plan() {
     assert!(tally.rounds > 1_000 && tally.settled > 500 && tally.settled_higher > 100, "{tally:?}");
     assert!(tally.bounds > 5_000 && tally.falls > 300, "{tally:?}");
     assert!(tally.ended > 500 && tally.spent_with_plan > 500 && tally.spent_without > 100, "{tally:?}");
+    let Stops { met, forbidden, fewer, with_tries_left, by_the_last, same } = tally.stops;
+    assert!(met > 500 && forbidden > 50 && fewer > 200 && same > 500, "{tally:?}");
+    assert!(with_tries_left > 20 && by_the_last > 100, "{tally:?}");
     let Saves { loaded, rewritten, forbidden, given_back } = tally.saves;
     assert!(loaded > 500 && rewritten > 300 && forbidden > 200 && given_back > 500, "{tally:?}");
     for (ceilings, least) in tally.ceilings.iter().zip([500, 100]) {

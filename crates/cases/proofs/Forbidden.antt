@@ -169,11 +169,11 @@ table =
     ∷ declined clique
     "05 000001 000001 000001 000001 000001 000001 000001 000001 000000 000000 000000 000001 000000 000000 000000 000001 000000 000000 000000"
     "FF 0E"
-    -- D: a load, a search, a tightening, a search
+    -- D: a load, a search, a tightening, a search that ends at the bound
     ∷ row fresh dLine "81 000000000000 000000000000" d
     ∷ row d "06 0000000A" "86 01 00000004 000000000002 00 01" d
     ∷ row d "04" "84 000000000002 000000000002" dTight
-    ∷ row dTight "06 0000000A" "86 01 00000004 000000000002 00 01" dTight
+    ∷ row dTight "06 0000000A" "86 01 00000003 000000000002 00 01" dTight
     -- additions: to the forbidden choice, of FFFFFF, to the permitted choice; a save
     ∷ row dTight "02 00 01 000005" "82 000000000002 000000000002" dTight
     ∷ declined dTight "02 00 01 FFFFFF" "FF 07"

@@ -52,13 +52,13 @@ table =
     row fresh jLine "81 000000000000 000000000000" j
     ∷ row j "04" "84 000000000002 000000000002" tight
     ∷ row tight "05 000001 000001 000000 000000 000001 000000 000001 000000 000000" "85 01 0000000000000002 000001" tight
-    ∷ row tight "06 0000000A" "86 01 00000004 000000000002 00 01" tight
+    ∷ row tight "06 0000000A" "86 01 00000003 000000000002 00 01" tight
     -- case 5: 'J then the search line: count 6, cost 2, plan 0 1'
     ∷ row j "06 0000000A" "86 01 00000006 000000000002 00 01" j
     -- case 6: 'J then the certificate'
     ∷ row j "05 000001 000001 000000 000000 000001 000000 000001 000000 000000" "85 00 0000000000000002 000001" j
-    -- case 7: 'J, tighten, budget 3'
-    ∷ row tight "06 00000003" "86 00 00000003 000000000002 00 01" tight
+    -- case 7: 'J, tighten, budget 3'; document 02, change 6: 'case 7 says ended with count 3'
+    ∷ row tight "06 00000003" "86 01 00000003 000000000002 00 01" tight
     -- case 8: 'J, budget 1: spent, count 1, no plan'
     ∷ row j "06 00000001" "86 00 00000001 FFFFFFFFFFFF FF FF" j
     -- case 9: 'J, u_0 = 2 with move 2 on train 0 choice 1, rest 0: accepted, c0 = 2'

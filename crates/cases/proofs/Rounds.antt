@@ -100,18 +100,18 @@ twoRound =
 
 unfoldable pub table : List Row
 table =
-    -- the branch line: load; tighten, which finds nothing; a round, after which the bound is the least cost; search; a second round, which changes nothing
+    -- the branch line: load; tighten, which finds nothing; a round, after which the bound is the least cost; search, which ends at the bound; a second round, which changes nothing
     row fresh "01 02 0001 02 02 000001 000000 000000 000001 01 00 01 000000 000000 000001 000000" "81 000000000000 000000000000" branch
     ∷ row branch "04" "84 000000000000 000000000000" branch
     ∷ row branch "08" "88 000000000001 000000000001" branchRound
-    ∷ row branchRound "06 000003E8" "86 01 00000004 000000000001 00 00" branchRound
+    ∷ row branchRound "06 000003E8" "86 01 00000002 000000000001 00 00" branchRound
     ∷ row branchRound "08" "88 000000000001 000000000001" branchRound
     -- two parts a point: 2 parts publish 1 point
     ∷ row fresh "01 02 0002 02 02 000001 000000 000000 000001 01 00 01 000000 000000 000001 000000" "81 000000000000 000000000000" halves
     ∷ row halves "08" "88 000000000002 000000000001" halvesRound
     -- J: rows give 0 and 2 to train 0, and 2 goes from it to the constant
     ∷ row j "08" "88 000000000002 000000000002" lifted
-    ∷ row lifted "06 0000000A" "86 01 00000004 000000000002 00 01" lifted
+    ∷ row lifted "06 0000000A" "86 01 00000003 000000000002 00 01" lifted
     -- 'train 0 lifts last': of a single train that is all
     ∷ row fresh "01 01 0003 02 000005 000002 00" "81 000000000000 000000000000" single
     ∷ row single "08" "88 000000000006 000000000002" singleRound

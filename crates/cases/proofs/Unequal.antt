@@ -106,10 +106,10 @@ table =
     tight1
     -- the same, but for the columns of the first pair, which do not sum to the weights of train 1: 14
     ∷ declined tight1 "05 000002 000001 000001 000001 000001 000000 000002 000000 000001 000000 000000 000001 000000 000001 000001 000000" "FF 0E"
-    -- search: spent with a plan, spent with none, and ended
+    -- search: spent with a plan, spent with none, and ended at the bound
     ∷ row tight1 "06 00000005" "86 00 00000005 000000000009 00 00 00" tight1
     ∷ row tight1 "06 00000002" "86 00 00000002 FFFFFFFFFFFF FF FF FF" tight1
-    ∷ row tight1 "06 00000064" "86 01 0000000A 000000000007 01 00 00" tight1
+    ∷ row tight1 "06 00000064" "86 01 00000008 000000000007 01 00 00" tight1
     -- a second time: add 2 points to train 0, choice 1; lift 1 part from train 0, which gives 2 and 1 back to the rows of the first pair; tighten
     ∷ row tight1 "02 00 01 000002" "82 00000000000E 000000000007" added2
     ∷ row added2

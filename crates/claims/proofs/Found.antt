@@ -7,9 +7,13 @@ use native.Mathlib.Nat.{mul-zero}
 use native.Mathlib.Omega.{arith}
 use lib.Dec.{eqb}
 use lib.IntN.{ℤ}
+use Rattle.units.specs.Units.{roundedUp}
+use Rattle.units.proofs.Bound.{rounded-whole}
 use Rattle.tables.specs.Block.{maxTrains, maxPairs, maxCost, scale}
 use Rattle.tables.specs.Plans.{Shape, AlikeShapes, Costs, IsPlan, Open, choicesOf, shapeOf, loadedCosts, heldTotal}
 use Rattle.tables.proofs.Plans.{Shaped, study-shaped, first-size, second-size}
+use Rattle.tables.proofs.Study.{scale-range}
+use Rattle.bounds.specs.Bounds.{boundOf}
 use Rattle.certificates.specs.declared.certify.Certificate.the-variants.{Balanced}
 use Rattle.certificates.specs.declared.certify.Ceiling.{Ceiling}
 use Rattle.certificates.specs.Certify.{Weights, certificate}
@@ -21,7 +25,7 @@ use Rattle.search.specs.Answer.{searchAnswer}
 use Rattle.search.proofs.Theorems.{answer-plan, answer-cost, answer-least}
 use Rattle.claims.specs.Ledger.{Ledger, costOf}
 use Rattle.claims.specs.Claims.{PlanOf, scaledCost, startCosts}
-use Rattle.claims.proofs.Keeps.{Keeps, scaled-total, plan-in, plan-out, open-in, cost-is, total-is, loaded-total-most}
+use Rattle.claims.proofs.Keeps.{Keeps, scaled-total, plan-in, plan-out, open-in, cost-is, total-is, bound-low, loaded-total-most}
 use Rattle.claims.proofs.Kept.{SameCosts}
 
 -- ---- rivals by lifts and moves, of shapes that agree where they are used
@@ -81,8 +85,16 @@ module _ {g : Ledger} {b : List ℤ} (k : Keeps g b) where
       lifts-alike same (w .fullWeight) (c .weighted) up down (certify-moved (k .study) (k .weighs) w e up down (leaves-alike same (study-shaped (k .study)) same-start up down l))
 
   -- every plan's total is a whole number of points
-  points : (x : ℕ → ℕ) → IsPlan (shapeOf b) x → heldTotal b x ≡ scale b * costOf g x
+  pub points : (x : ℕ → ℕ) → IsPlan (shapeOf b) x → heldTotal b x ≡ scale b * costOf g x
   points x p = scaled-total k x p ∙ ap (λ (v : ℕ). scale b * v) (sym (cost-is k x p))
+
+  -- so that rounded up it is the plan's cost
+  in-points : (x : ℕ → ℕ) → IsPlan (shapeOf b) x → roundedUp (scale b) (heldTotal b x) ≡ costOf g x
+  in-points x p = ap (roundedUp (scale b)) (points x p) ∙ rounded-whole (scale b) (scale-range (k .study) .0) (costOf g x)
+
+  -- which the bound never exceeds: a search may end at it
+  bound-lowest : (x : ℕ → ℕ) → IsPlan (shapeOf b) x → boundOf b ≤ roundedUp (scale b) (heldTotal b x)
+  bound-lowest x p = omega (arith, in-points x p, bound-low k x (plan-out k x p))
 
   module _ (budget : ℕ) where
     -- a plan that is known is one of the ledger's, and its cost is shown
@@ -103,5 +115,5 @@ module _ {g : Ledger} {b : List ℤ} (k : Keeps g b) where
     pub ended-least : searchAnswer b budget .ended ≡ true → (x : ℕ → ℕ) → PlanOf g x → (searchAnswer b budget .found ≡ true) × (searchAnswer b budget .cost .0 ≤ costOf g x)
     ended-least e x p =
         let q = plan-in k x p in
-        let f = answer-least (k .study) budget e x q in
-        (f .0, f .1 (costOf g x) (points x q))
+        let f = answer-least (k .study) budget bound-lowest e x q in
+        (f .0, omega (arith, f .1, in-points x q))

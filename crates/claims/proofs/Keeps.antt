@@ -1,20 +1,20 @@
 -- What every call keeps between the block and the ledger, and what follows from it: totals, the bound, ceilings and searches by the ledger's costs. It is kept for all weights that agree and spare
 -- what is forbidden, of which each plan is one: of the totals of plans alone too little would follow, since there may be no plan.
-use mathlib.Core.Path.{_≡_, refl, sym, ap, ap₂, _∙_}
+use mathlib.Core.Path.{_≡_, refl, sym, ap₂, _∙_}
 use mathlib.Core.List.{List}
 use Prim.Native.Nat.{ℕ, _+_, _*_, _<_, _≤_}
 use native.Mathlib.Omega.{arith}
 use native.Mathlib.Nat.{mul-le-mul}
 use lib.IntN.{ℤ}
 use Rattle.theory.proofs.Sum.{sum-most}
-use Rattle.units.proofs.Bound.{rounded-least}
-use Rattle.tables.specs.Block.{maxTrains, maxPairs, maxCost, maxParts, trains, scale, pairs, constant, size, first, second, loadedChoice, loadedEntry}
+use Rattle.tables.specs.Block.{maxTrains, maxPairs, maxCost, maxParts, trains, scale, pairs, size, first, second, loadedChoice, loadedEntry}
 use Rattle.tables.specs.WellFormed.{Study}
 use Rattle.tables.specs.Plans.{Shape, AlikeShapes, Costs, IsPlan, Open, choiceTotal, pairTotal, total, shapeOf, loadedCosts, heldCosts, loadedTotal, heldTotal}
-use Rattle.tables.proofs.Plans.{study-shaped, plan-first, plan-second, total-cong, constant-at-most-total, first-size, second-size, alike-shaped, alike-back, alike-plan, alike-total}
+use Rattle.tables.proofs.Plans.{study-shaped, plan-first, plan-second, total-cong, first-size, second-size, alike-shaped, alike-back, alike-plan, alike-total}
 use Rattle.tables.proofs.Study.{trains-range, scale-range, pairs-range, first-below-trains, second-below-trains, loaded-choice-range, loaded-entry-range, choice-open, entry-open}
+use Rattle.bounds.specs.Bounds.{boundOf}
+use Rattle.bounds.proofs.Plans.{bound-at-most}
 use Rattle.weights.proofs.Weighs.{Weighs, weighs-total}
-use Rattle.replies.specs.Replies.{boundOf}
 use Rattle.claims.specs.Ledger.{Ledger, costOf}
 use Rattle.claims.specs.Claims.{PlanOf, scaledCost, SameStudy, AfterList}
 
@@ -79,10 +79,7 @@ module _ {g : Ledger} {b : List ℤ} (k : Keeps g b) where
 
   -- the bound is at most every plan's cost
   pub bound-low : (x : ℕ → ℕ) → PlanOf g x → boundOf b ≤ costOf g x
-  unfolding heldCosts
-  bound-low x p =
-      rounded-least (scale b) (scale-range (k .study) .0) (constant b) (costOf g x)
-      (rw (ap (λ (v : ℕ). v * costOf g x) (k .same .scale-same), ← total-is x p) (constant-at-most-total (shapeOf b) (heldCosts b) x))
+  bound-low x p = let q = plan-in x p in omega (arith, cost-is x q, bound-at-most (k .study) x q (scaled-total x q))
 
   pub after-list : AfterList g b
   after-list = record { same = k .same; totals = total-is; bound = bound-low }

@@ -17,4 +17,5 @@ pub mod Inputs
 pub mod Saves
 pub mod Rounds
 pub mod Forbidden
+pub mod Stops
 pub mod Uses

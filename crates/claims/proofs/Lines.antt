@@ -14,6 +14,7 @@ use Rattle.refusals.specs.Refusals.{refusalNumber}
 use Rattle.tables.specs.Block.{constant}
 use Rattle.tables.specs.Plans.{Shape, IsPlan, Open, Branches, LeastOf, choicesOf}
 use Rattle.tables.proofs.Plans.{plan-cong}
+use Rattle.bounds.specs.Bounds.{boundOf}
 use Rattle.certificates.specs.declared.certify.Ceiling.{Ceiling}
 use Rattle.certificates.specs.Rival.{Rival, IsRival, ConstantAtMost}
 use Rattle.weights.specs.Rival.{Amounts, Leaves, LiftsAtMost}
@@ -24,7 +25,7 @@ use Rattle.lines.specs.declared.kind.NewKind.the-variants.{Known}
 use Rattle.lines.specs.Kinds.{newKind}
 use Rattle.lines.specs.Layout.{kindOf}
 use Rattle.search.specs.declared.answer.Found.{Found}
-use Rattle.replies.specs.Replies.{refusalReply, figureWidth, choiceWidth, flag, boundOf, boundReply, certifyReply, shownCost, shownChoice, searchReply}
+use Rattle.replies.specs.Replies.{refusalReply, figureWidth, choiceWidth, flag, boundReply, certifyReply, shownCost, shownChoice, searchReply}
 use Rattle.replies.specs.Shown.{kindShown, saysEnded, saysEndedWithout, costShown, planShown, showsPlan}
 use Rattle.replies.proofs.ReadBack.{refusal-number, constant-shown, bound-shown, certify-flag, certify-weighted, certify-full-weight, search-ended, search-without, search-cost, search-plan}
 use Rattle.service.specs.Calls.{exchange}

@@ -9,20 +9,21 @@ use native.Mathlib.Omega.{arith}
 use lib.IntN.{ℤ}
 use lib.ListN.{length}
 use Rattle.theory.proofs.Range.{not-both}
-use Rattle.units.proofs.Bound.{rounded-most}
 use Rattle.refusals.specs.declared.Refusal.{Refusal}
 use Rattle.refusals.specs.declared.Refusal.the-variants.{CostAbove, PartsOutside, Sums, ForbiddenWeight}
 use Rattle.refusals.specs.declared.Verdict.{Verdict}
 use Rattle.refusals.specs.declared.Verdict.the-variants.{Fine, Declined}
 use Rattle.refusals.specs.Refusals.{refusalNumber}
 use Rattle.refusals.specs.Verdicts.{settled, unless}
-use Rattle.tables.specs.Block.{maxTrains, maxPairs, maxCost, maxParts, trains, scale, constant, size, first, second, loadedChoice, heldChoice}
+use Rattle.tables.specs.Block.{maxTrains, maxPairs, maxCost, maxParts, trains, scale, size, first, second, loadedChoice, heldChoice}
 use Rattle.tables.specs.LineLimits.{maxFullWeight}
 use Rattle.tables.specs.WellFormed.{holdsStudy, Study}
 use Rattle.tables.specs.Plans.{IsPlan, Open, shapeOf, loadedCosts, loadedTotal}
 use Rattle.tables.specs.Counts.{moveCount, weightCount}
 use Rattle.tables.proofs.Plans.{study-shaped, alike-inside, same-shape-total}
-use Rattle.tables.proofs.Study.{study-well-formed, trains-range, scale-range, pairs-range, constant-range, size-range, loaded-choice-range}
+use Rattle.tables.proofs.Study.{study-well-formed, trains-range, pairs-range, constant-range, size-range, loaded-choice-range}
+use Rattle.bounds.specs.Bounds.{boundOf}
+use Rattle.bounds.proofs.Plans.{bound-room}
 use Rattle.operations.specs.Add.{addOpen, added, addOutcome}
 use Rattle.operations.specs.Load.{loadedBlock}
 use Rattle.operations.proofs.Added.{added-closed, add-closed, cost-above, parts-above, both-within, add-study, add-within, add-same-shape, add-choice, add-choice-kept, add-entry-kept}
@@ -58,7 +59,7 @@ use Rattle.reader.proofs.LineKind.{line-known}
 use Rattle.reader.proofs.LineRefused.{ofReading, line-refused}
 use Rattle.search.specs.Answer.{searchAnswer}
 use Rattle.search.proofs.Theorems.{search-entries}
-use Rattle.replies.specs.Replies.{refusalReply, replyKind, figureWidth, boundOf, boundReply, certifyReply, searchReply, longestFixed}
+use Rattle.replies.specs.Replies.{refusalReply, replyKind, figureWidth, boundReply, certifyReply, searchReply, longestFixed}
 use Rattle.replies.specs.Shown.{kindShown}
 use Rattle.replies.proofs.ReadBack.{bound-kind, certify-kind, search-kind}
 use Rattle.requests.specs.Answer.{Answer, answered, declined, operated, certified, saved, requested, lineAnswer}
@@ -134,9 +135,9 @@ good-declined {g} {b} k l r w = good-by g g b l (declined b r) (fed-refused g l 
 
 -- ---- replies that show a bound
 
--- the bound that a reply shows fits its field: it is at most c0, and c0 at most L
+-- the bound that a reply shows fits its field
 bound-fits : {b : List ℤ} → Study b → boundOf b < 256 ^ figureWidth
-bound-fits {b} s = omega (arith, rounded-most (scale b) (scale-range s .0) (constant b), constant-range s)
+bound-fits s = omega (arith, bound-room s)
 
 -- of a kind that claims no more and is answered under its own byte
 good-bound : (g : Ledger) (old : List ℤ) (l : List ℕ) (k : Kind) (b : List ℤ) → newKind (kindOf l) ≡ Known k → replyKind k ≡ shownKind k

@@ -19,6 +19,7 @@ use Rattle.tables.specs.Block.{loadedChoicePlace, heldChoicePlace, loadedEntryP
 use Rattle.tables.specs.WellFormed.{isOpen, freshBlock}
 use Rattle.tables.specs.Numbers.{isCost, permits, paid}
 use Rattle.tables.specs.Plans.{Open, Branches, LeastOf, choiceTotal, pairTotal, total, heldTotal}
+use Rattle.bounds.specs.Bounds.{boundOf}
 use Rattle.certificates.specs.Rival.{asFraction, plus, times, sumOf, Same, AtMost, Rival, rivalTotal, IsRival, ConstantAtMost}
 use Rattle.weights.specs.Rival.{Amounts, givenOf, Leaves, LiftsAtMost}
 use Rattle.frames.specs.Digits.{digit, byteAt}
@@ -34,7 +35,6 @@ use Rattle.lines.specs.Verdicts.{fieldVerdict}
 use Rattle.kinds.specs.Load.{pairOrdered, pairVerdict, headVerdict, restVerdict, loadVerdict}
 use Rattle.decoding.specs.Numbers.{entriesOf, numbersOf}
 use Rattle.reader.specs.Reading.{studyLine, kindLine, lineOf}
-use Rattle.replies.specs.Replies.{boundOf}
 use Rattle.replies.specs.Shown.{boundShown}
 use Rattle.requests.specs.Answer.{lineAnswer}
 use Rattle.service.specs.Answer.{minBuffer, answer}

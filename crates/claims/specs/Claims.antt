@@ -10,6 +10,7 @@ use Rattle.tables.specs.Block.{heldChoicePlace, heldEntryPlace, at, trains, sca
 use Rattle.tables.specs.WellFormed.{isOpen, wellFormed, freshBlock}
 use Rattle.tables.specs.Plans.{AlikeShapes, Costs, IsPlan, Open, Branches, LeastOf, shapeOf, heldTotal}
 use Rattle.tables.specs.Counts.{rowsOf, columnsOf}
+use Rattle.bounds.specs.Bounds.{boundOf}
 use Rattle.certificates.specs.Rival.{Rival, IsRival, ConstantAtMost}
 use Rattle.weights.specs.Rival.{Amounts, Leaves, LiftsAtMost}
 use Rattle.lines.specs.declared.kind.Kind.{Kind}
@@ -21,7 +22,7 @@ use Rattle.lines.specs.Layout.{kindOf}
 use Rattle.kinds.specs.Load.{loadRequest}
 use Rattle.decoding.specs.Numbers.{numbersOf}
 use Rattle.reader.specs.Reading.{lineOf}
-use Rattle.replies.specs.Replies.{choiceWidth, boundOf, refusalByte, replyKind, flag}
+use Rattle.replies.specs.Replies.{choiceWidth, refusalByte, replyKind, flag}
 use Rattle.replies.specs.Shown.{kindShown, numberShown, constantShown, boundShown, flagShown, weightedShown, fullWeightShown, saysEnded, saysEndedWithout, costShown, planShown, showsPlan}
 use Rattle.service.specs.Calls.{Call, Exchange, lastBlock, blocks, exchanges}
 use Rattle.claims.specs.Ledger.{Ledger, accepted, numbersLedger, byKind, fed, ledgerOf, emptyLedger, costOf, hasLoad}

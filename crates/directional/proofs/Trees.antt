@@ -3,15 +3,13 @@
 use mathlib.Core.Path.{_≡_, sym, ap, _∙_}
 use mathlib.Core.Bool.{true}
 use mathlib.Core.Logic.{_⊎_, inl, inr, ⊎-elim, dite, _≢_}
-use Prim.Native.Nat.{ℕ, zero, suc, _+_, _*_, _<_, _≤_}
+use Prim.Native.Nat.{ℕ, zero, suc, _+_, _<_, _≤_}
 use native.Mathlib.Decide.{ℕ-discrete}
 use native.Mathlib.Numerals.{add-one}
 use native.Mathlib.Omega.{arith}
 use Rattle.theory.specs.Sum.{update}
 use Rattle.theory.proofs.Range.{below-suc}
 use Rattle.theory.proofs.Sum.{sum-cong, sum-zero, update-same, update-other}
-use Rattle.units.specs.Units.{roundedUp}
-use Rattle.units.proofs.Bound.{rounded-least, rounded-whole}
 use Rattle.tables.specs.Plans.{Shape, Costs, IsPlan, Open, choiceTotal, pairTotal, total, Branches, LeastOf}
 use Rattle.tables.proofs.Plans.{Shaped, open-plan, constant-at-most-total}
 
@@ -142,11 +140,3 @@ least-as l e =
       is-plan = l .is-plan;
       is = sym (e (l .plan) (l .is-plan)) ∙ l .is;
     }
-
--- where every plan is worth a whole number of points, the least in parts is published as the least in points
-pub least-scaled : {s : Shape} {f : (ℕ → ℕ) → ℕ} {v : ℕ} (n : ℕ) → 0 < n → LeastOf s (λ x. n * f x) v → (v ≡ n * roundedUp n v) × LeastOf s f (roundedUp n v)
-least-scaled {s} {f} {v} n h l =
-    let e : roundedUp n v ≡ f (l .plan) = ap (roundedUp n) (sym (l .is)) ∙ rounded-whole n h (f (l .plan)) in (
-      sym (l .is) ∙ ap (λ (w : ℕ). n * w) (sym e),
-      record { least = λ x p. rounded-least n h v (f x) (l .least x p); plan = l .plan; is-plan = l .is-plan; is = sym e },
-    )

@@ -10,12 +10,13 @@ use Rattle.refusals.specs.declared.Refusal.{Refusal}
 use Rattle.refusals.specs.declared.Refusal.the-variants.{Characters, TooLong, NoKind, FreshBlock, Fields, Range, Cost, Pair, Absent, CostAbove, Move, PartsOutside, FullWeight, Sums, Budget, Malformed, ForbiddenWeight}
 use Rattle.refusals.specs.Refusals.{refusalNumber}
 use Rattle.tables.specs.Block.{constant}
+use Rattle.bounds.specs.Bounds.{boundOf}
 use Rattle.certificates.specs.declared.certify.Ceiling.{Ceiling}
 use Rattle.lines.specs.declared.kind.Kind.{Kind}
 use Rattle.lines.specs.declared.kind.Kind.the-variants.{Certify, Search}
 use Rattle.lines.proofs.KindNumbers.{number-low}
 use Rattle.search.specs.declared.answer.Found.{Found}
-use Rattle.replies.specs.Replies.{figureWidth, choiceWidth, refusalWidths, refusalByte, refusalReply, replyKind, boundWidths, boundOf, boundReply, certifyWidths, flag, certifyReply, searchWidths, ending, shownCost, shownChoice, searchReply, refusalNumbers, boundNumbers, certifyNumbers, searchNumbers, planDigits}
+use Rattle.replies.specs.Replies.{figureWidth, choiceWidth, refusalWidths, refusalByte, refusalReply, replyKind, boundWidths, boundReply, certifyWidths, flag, certifyReply, searchWidths, ending, shownCost, shownChoice, searchReply, refusalNumbers, boundNumbers, certifyNumbers, searchNumbers, planDigits}
 use Rattle.replies.specs.Shown.{kindShown, numberShown, constantShown, boundShown, flagShown, weightedShown, fullWeightShown, endingShown, saysEnded, saysEndedWithout, costShown, planShown}
 use Rattle.replies.proofs.ReplyFields.{fields-shown, run-shown}
 

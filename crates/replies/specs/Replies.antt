@@ -4,10 +4,10 @@ use mathlib.Core.List.{List, [], _∷_}
 use Prim.Native.Nat.{ℕ, _+_, _*_, _-_, _^_}
 use lib.IntN.{ℤ}
 use lib.ListN.{getD}
-use Rattle.units.specs.Units.{roundedUp}
 use Rattle.refusals.specs.declared.Refusal.{Refusal}
 use Rattle.refusals.specs.Refusals.{refusalNumber}
-use Rattle.tables.specs.Block.{scale, constant, maxTrains}
+use Rattle.tables.specs.Block.{constant, maxTrains}
+use Rattle.bounds.specs.Bounds.{boundOf}
 use Rattle.certificates.specs.declared.certify.Ceiling.{Ceiling}
 use Rattle.frames.specs.Fields.{fieldDigits}
 use Rattle.frames.specs.Runs.{runDigits}
@@ -64,10 +64,6 @@ replyKind kind = replyByte (kindNumber kind)
 
 abbrev pub boundWidths : List ℕ
 boundWidths = 1 ∷ figureWidth ∷ figureWidth ∷ []
-
--- 'The published bound' of a block
-abbrev pub boundOf : List ℤ → ℕ
-boundOf b = roundedUp (scale b) (constant b)
 
 abbrev pub boundNumbers : Kind → List ℤ → List ℕ
 boundNumbers kind b = replyKind kind ∷ constant b ∷ boundOf b ∷ []

@@ -57,7 +57,7 @@ pub fn write_bound(reply: &mut [u8], kind: Kind, block: &[i64]) -> usize
     ensures { λ n. ⌜ Wrote (now (reply .entry)) (boundReply kind (now (block .entry))) (now (reply .exit)) n ⌝ }
 {
     let constant = block::constant(block);
-    let bound = block::scale(block).bound(constant);
+    let bound = bounds::published(block);
     let numbers = [reply_kind(kind), constant.number(), bound.number()];
     write::put_fields(reply, &BOUND_WIDTHS, &numbers)
 }

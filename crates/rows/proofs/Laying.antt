@@ -12,10 +12,11 @@ use lib.Seq.{getD-set-same, getD-set-other}
 use Rattle.tables.specs.Block.{maxTrains, maxChoices, entriesOfPair, trains, pairs, size, first, second}
 use Rattle.tables.specs.Block as block
 use Rattle.tables.specs.WellFormed.{Study}
+use Rattle.bounds.specs.Bounds.{boundOf}
 use Rattle.tables.proofs.Study.{trains-range, pairs-range, size-range, first-below-trains, second-below-trains}
 use Rattle.rows.specs.Walled.{walled}
 use Rattle.rows.specs.Links.{ownRow, pairRow, sumsLength, Back, Begin}
-use Rattle.rows.specs.Table.{tableLength, rowFrom, sizesFrom, endsFrom, basesFrom, beginsFrom, trainsPlace, Part, CostsLaid, linkedPair, Linked, Laid, Owned}
+use Rattle.rows.specs.Table.{tableLength, rowFrom, sizesFrom, endsFrom, basesFrom, beginsFrom, trainsPlace, scalePlace, boundPlace, Part, CostsLaid, linkedPair, Linked, Laid, Owned}
 use Rattle.rows.proofs.Walled.{walled-shape}
 
 -- from place 0 on
@@ -105,27 +106,40 @@ linked-more {b} s k {l₀} {l} q w u =
 
 -- ---- all of it
 
-module _ {b : List ℤ} (s : Study b) {n : ℕ} (en : n ≡ trains b) {l₀ l₁ l₂ l₃ l₄ l₅ : List ℕ} (w : length l₀ ≡ tableLength)
+module _ {b : List ℤ} (s : Study b) {n bound : ℕ} (en : n ≡ trains b) (eb : bound ≡ boundOf b) {l₀ l₁ l₂ l₃ l₄ l₅ : List ℕ} (w : length l₀ ≡ tableLength)
     (p₁ : CostsLaid b (pairs b) l₀ l₁)
     (p₂ : Part (λ i v. v ≡ walled b (block.sizesFrom + i)) sizesFrom n l₁ l₂)
     (p₃ : Linked b (pairs b) l₂ l₃)
     (p₄ : Part (Begin b) beginsFrom (trains b + 1) l₃ l₄)
-    (p₅ : Part (λ i v. v ≡ walled b (block.trainsPlace + i)) trainsPlace 1 l₄ l₅) where
-  pub laid : Laid b l₅
+    (p₅ : Part (λ i v. v ≡ walled b (block.trainsPlace + i)) trainsPlace 2 l₄ l₅) where
+  -- the bound stands behind all else
+  bound-last : (p : ℕ) → p < boundPlace → getD (set l₅ boundPlace bound) p 0 ≡ getD l₅ p 0
+  bound-last p h = getD-set-other l₅ boundPlace p bound 0 (λ e. omega arith)
+
+  whole-length : length l₅ ≡ tableLength
+  whole-length = omega (arith, w, p₁ .same, p₂ .same, p₃ .same, p₄ .same, p₅ .same)
+
+  -- what stands before n is left by the last two parts
+  left-last : (p : ℕ) → p < trainsPlace → getD (set l₅ boundPlace bound) p 0 ≡ getD l₄ p 0
+  left-last p h = bound-last p (omega arith) ∙ p₅ .before p h
+
+  pub laid : Laid b (set l₅ boundPlace bound)
   laid =
       let m = pairs-range s in
       let r = trains-range s in
       record {
-        whole = omega (arith, w, p₁ .same, p₂ .same, p₃ .same, p₄ .same, p₅ .same);
-        n = p₅ .inside 0 (omega arith) ∙ walled-shape s block.trainsPlace (omega arith);
+        whole = length-set l₅ boundPlace bound ∙ whole-length;
+        n = bound-last trainsPlace (omega arith) ∙ p₅ .inside 0 (omega arith) ∙ walled-shape s block.trainsPlace (omega arith);
+        s = bound-last scalePlace (omega arith) ∙ p₅ .inside 1 (omega arith) ∙ walled-shape s block.scalePlace (omega arith);
+        bound = getD-set-same l₅ boundPlace bound 0 (omega (arith, whole-length)) ∙ eb;
         sizes = λ t g.
-            p₅ .before (sizesFrom + t) (omega arith) ∙ p₄ .before (sizesFrom + t) (omega arith) ∙ p₃ .before (sizesFrom + t) (omega arith) ∙ p₂ .inside t (omega arith)
+            left-last (sizesFrom + t) (omega arith) ∙ p₄ .before (sizesFrom + t) (omega arith) ∙ p₃ .before (sizesFrom + t) (omega arith) ∙ p₂ .inside t (omega arith)
             ∙ walled-shape s (block.sizePlace t) (omega arith);
-        ends = λ t g. rw (p₅ .before (endsFrom + t) (omega arith) ∙ p₄ .before (endsFrom + t) (omega arith)) (p₃ .ends t g);
-        bases = λ k g. rw (p₅ .before (basesFrom + k) (omega arith) ∙ p₄ .before (basesFrom + k) (omega arith)) (p₃ .bases k g);
-        begins = λ t g. rw (p₅ .before (beginsFrom + t) (omega arith)) (p₄ .inside t g);
+        ends = λ t g. rw (left-last (endsFrom + t) (omega arith) ∙ p₄ .before (endsFrom + t) (omega arith)) (p₃ .ends t g);
+        bases = λ k g. rw (left-last (basesFrom + k) (omega arith) ∙ p₄ .before (basesFrom + k) (omega arith)) (p₃ .bases k g);
+        begins = λ t g. rw (left-last (beginsFrom + t) (omega arith)) (p₄ .inside t g);
         rows = λ k c a g e f.
             let i = rowFrom k c + a in
             let z = size-range s (first b k) (first-below-trains s k g) in
-            p₅ .before i (omega arith) ∙ p₄ .before i (omega arith) ∙ p₃ .before i (omega arith) ∙ p₂ .before i (omega arith) ∙ p₁ .rows k c a g e f;
+            left-last i (omega arith) ∙ p₄ .before i (omega arith) ∙ p₃ .before i (omega arith) ∙ p₂ .before i (omega arith) ∙ p₁ .rows k c a g e f;
       }

@@ -4,7 +4,8 @@ use mathlib.Core.List.{List}
 use Prim.Native.Nat.{ℕ, _+_, _*_, _<_, _≤_}
 use lib.IntN.{ℤ}
 use lib.ListN.{length, getD, set}
-use Rattle.tables.specs.Block.{maxTrains, maxChoices, maxPairs, entriesOfPair, trains, pairs, size, first, second}
+use Rattle.tables.specs.Block.{maxTrains, maxChoices, maxPairs, entriesOfPair, trains, scale, pairs, size, first, second}
+use Rattle.bounds.specs.Bounds.{boundOf}
 use Rattle.rows.specs.Walled.{walledChoice, walledEntry}
 use Rattle.rows.specs.Links.{ownRow, pairRow, sumsLength, Back, Begin}
 
@@ -34,9 +35,17 @@ beginsFrom = basesFrom + maxPairs
 abbrev pub trainsPlace : ℕ
 trainsPlace = beginsFrom + maxTrains + 1
 
+-- behind it s
+abbrev pub scalePlace : ℕ
+scalePlace = trainsPlace + 1
+
+-- and the published bound
+abbrev pub boundPlace : ℕ
+boundPlace = scalePlace + 1
+
 -- how many numbers a table has
 abbrev pub tableLength : ℕ
-tableLength = trainsPlace + 1
+tableLength = boundPlace + 1
 
 -- ---- what stands there
 
@@ -48,6 +57,8 @@ beginOf l t = getD l (beginsFrom + t) 0
 pub record Laid (b : List ℤ) (l : List ℕ) : Type 0 where
   pub whole : length l ≡ tableLength
   pub n : getD l trainsPlace 0 ≡ trains b
+  pub s : getD l scalePlace 0 ≡ scale b
+  pub bound : getD l boundPlace 0 ≡ boundOf b
   pub sizes : (t : ℕ) → t < trains b → getD l (sizesFrom + t) 0 ≡ size b t
   pub ends : (t : ℕ) → t < trains b → Back b t (pairs b) (getD l (endsFrom + t) 0)
   pub bases : (k : ℕ) → k < pairs b → Back b (second b k) k (getD l (basesFrom + k) 0)

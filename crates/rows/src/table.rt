@@ -22,8 +22,12 @@ pub const BASES_FROM: usize = ENDS_FROM + Block::TRAINS;
 pub const BEGINS_FROM: usize = BASES_FROM + Block::PAIRS;
 // Where n stands.
 pub const TRAINS_PLACE: usize = BEGINS_FROM + Block::TRAINS + 1;
+// Where s stands.
+pub const SCALE_PLACE: usize = TRAINS_PLACE + 1;
+// Where the published bound stands.
+pub const BOUND_PLACE: usize = SCALE_PLACE + 1;
 // How many numbers a table has.
-pub const LENGTH: usize = TRAINS_PLACE + 1;
+pub const LENGTH: usize = BOUND_PLACE + 1;
 
 // What a forbidden place counts: above every total, and so far below 2^64 that a wall for a choice and one for each pair fit.
 pub const WALL: u64 = 1 << 50;
@@ -80,7 +84,8 @@ pub fn lay(b: &[i64], table: &mut [u64])
     copy(b, Block::SIZES_FROM, block::trains(b), table, SIZES_FROM);
     links::fill_rows(b, table);
     links::fill_begins(b, table);
-    copy(b, Block::TRAINS_PLACE, 1, table, TRAINS_PLACE);
+    copy(b, Block::TRAINS_PLACE, 2, table, TRAINS_PLACE);
+    table[BOUND_PLACE] = bounds::published(b).number();
 }
 
 // Lays the trains' own rows of sums.

@@ -17,7 +17,7 @@ use Rattle.tables.specs.Plans.{choicesOf, Shape, Costs, heldCosts}
 use Rattle.tables.proofs.Study.{trains-range}
 use Rattle.rows.specs.Walled.{wall}
 use Rattle.search.specs.declared.walk.Walk.{Walk}
-use Rattle.search.specs.Walk.{barred, added, Decided, oneTry, triedFrom, choiceTry, openedTrain}
+use Rattle.search.specs.Walk.{barred, added, Decided, oneTry, triedFrom, choiceTry, openedTrain, atBound}
 use Rattle.search.specs.Held.{Alike, tryOf}
 use Rattle.search.proofs.Barred.{barred-cong}
 use Rattle.search.proofs.Totals.{Walkable, added-cong, partial-cong}
@@ -77,16 +77,16 @@ module _ {s : Shape} (o : Walkable s) (c : Costs) where
       (added-cong o c (choicesOf (set x t a)) (choicesOf (set y t a)) t h)
       ∙ (λ i. oneTry budget bar total (λ u. n total u i) v)
 
-  pub opened-alike : (budget left t partial : ℕ) (x y : List ℕ) → t + left ≡ s .trains → length x ≡ maxTrains → Alike t (s .trains) x y
-      → (w : Walk) → openedTrain s c budget left t partial x w ≡ openedTrain s c budget left t partial y w
+  pub opened-alike : (meets : ℕ → Bool) (budget left t partial : ℕ) (x y : List ℕ) → t + left ≡ s .trains → length x ≡ maxTrains → Alike t (s .trains) x y
+      → (w : Walk) → openedTrain s c meets budget left t partial x w ≡ openedTrain s c meets budget left t partial y w
   unfolding openedTrain
-  opened-alike budget zero t partial x y e l p w =
+  opened-alike meets budget zero t partial x y e l p w =
       let f : x ≡ y = list-same x y (p .same) (λ i. dite (decLt i (s .trains)) (λ q. p .before i (omega arith)) (λ q. p .after i (omega arith))) in
       rw f
-  opened-alike budget (suc left) t partial x y e l p w =
+  opened-alike meets budget (suc left) t partial x y e l p w =
       let next : (a : ℕ) → Alike (t + 1) (s .trains) (set x t a) (set y t a) = λ a. alike-next a (omega arith) (omega (arith, l, o .room)) p in
-      λ i. triedFrom (λ a v. choice-alike budget (openedTrain s c budget left (t + 1)) t partial a x y (next a .before)
-      (λ total u. opened-alike budget left (t + 1) total (set x t a) (set y t a) (omega arith) (length-set x t a ∙ l) (next a) u) v i) (s .size t) 0 w
+      λ i. triedFrom (λ a v. choice-alike budget (openedTrain s c meets budget left (t + 1)) t partial a x y (next a .before)
+      (λ total u. opened-alike meets budget left (t + 1) total (set x t a) (set y t a) (omega arith) (length-set x t a ∙ l) (next a) u) v i) (s .size t) 0 w
 
   -- where trains are decided
   pub decided-alike : (t n partial : ℕ) (x y : List ℕ) → Alike t n x y → Decided s c t partial x → Decided s c t partial y
@@ -104,4 +104,4 @@ pub try-alike : {b : List ℤ} → Study b → (budget t a total : ℕ) (x y : L
 unfolding tryOf
 try-alike {b} s budget t a total x y h l p w =
     let q = alike-next a h (omega (arith, l, trains-range s)) p in
-    λ i. oneTry budget (leb wall total) total (λ u. opened-alike (study-walkable s) (heldCosts b) budget (trains b - (t + 1)) (t + 1) total (set x t a) (set y t a) (omega arith) (length-set x t a ∙ l) q u i) w
+    λ i. oneTry budget (leb wall total) total (λ u. opened-alike (study-walkable s) (heldCosts b) (atBound b) budget (trains b - (t + 1)) (t + 1) total (set x t a) (set y t a) (omega arith) (length-set x t a ∙ l) q u i) w

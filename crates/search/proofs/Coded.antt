@@ -21,7 +21,7 @@ use Rattle.rows.specs.Walled.{wall, walledChoice, walledEntry, walledCosts}
 use Rattle.rows.specs.Added.{rowAdded, sumBelow}
 use Rattle.rows.proofs.Written.{kept}
 use Rattle.search.specs.declared.walk.Walk.{Walk}
-use Rattle.search.specs.Walk.{barred, pairAdded, added, Decided, counted, markedSpent, wholePlan, dropped, oneTry, choiceTry, openedTrain, noChoices, nothingTried, walked, searched}
+use Rattle.search.specs.Walk.{barred, pairAdded, added, Decided, counted, markedSpent, wholePlan, stopped, dropped, oneTry, choiceTry, openedTrain, noChoices, nothingTried, walked, atBound, searched}
 use Rattle.search.specs.Held.{tryOf, choiceOf, choicesFrom}
 use Rattle.search.proofs.Tries.{one-less, tries-cong}
 use Rattle.search.proofs.Walled.{comes-added, comes-barred}
@@ -48,19 +48,19 @@ added-row {b} s t a chosen h l = ap₂ _+_ (ap (walledChoice b t) here) (sum-con
 -- ---- trains and tries
 
 module _ (b : List ℤ) (budget : ℕ) where
-  whole : (u partial : ℕ) (chosen : List ℕ) (w : Walk) → u ≡ trains b → openedTrain (shapeOf b) (heldCosts b) budget (trains b - u) u partial chosen w ≡ wholePlan partial chosen w
+  whole : (u partial : ℕ) (chosen : List ℕ) (w : Walk) → u ≡ trains b → openedTrain (shapeOf b) (heldCosts b) (atBound b) budget (trains b - u) u partial chosen w ≡ wholePlan (atBound b) partial chosen w
   unfolding openedTrain
   whole u partial chosen w e = let z : trains b - u ≡ 0 = omega arith in rw z
 
   module _ (s : Study b) where
     -- one try: where a forbidden entry is brought in its total is never looked at, elsewhere it is the same
     choice-same : (u partial : ℕ) (chosen : List ℕ) → u < trains b → Decided (shapeOf b) (heldCosts b) u partial chosen → (a : ℕ) → a < size b u → (w : Walk)
-        → choiceTry (shapeOf b) (heldCosts b) budget (openedTrain (shapeOf b) (heldCosts b) budget (trains b - (u + 1)) (u + 1)) u partial chosen a w ≡ choiceOf b budget u partial chosen a w
+        → choiceTry (shapeOf b) (heldCosts b) budget (openedTrain (shapeOf b) (heldCosts b) (atBound b) budget (trains b - (u + 1)) (u + 1)) u partial chosen a w ≡ choiceOf b budget u partial chosen a w
     unfolding oneTry tryOf
     choice-same u partial chosen h d a q w = by (barred (shapeOf b) (choicesOf (set chosen u a)) u) refl
       where
         by : (r : Bool) → barred (shapeOf b) (choicesOf (set chosen u a)) u ≡ r
-            → choiceTry (shapeOf b) (heldCosts b) budget (openedTrain (shapeOf b) (heldCosts b) budget (trains b - (u + 1)) (u + 1)) u partial chosen a w ≡ choiceOf b budget u partial chosen a w
+            → choiceTry (shapeOf b) (heldCosts b) budget (openedTrain (shapeOf b) (heldCosts b) (atBound b) budget (trains b - (u + 1)) (u + 1)) u partial chosen a w ≡ choiceOf b budget u partial chosen a w
         by true f = rw (comes-barred (study-walkable s) (study-walled s) u a partial chosen h q d (study-limited s), f)
         by false f =
             rw (
@@ -70,7 +70,7 @@ module _ (b : List ℤ) (budget : ℕ) where
             )
 
     pub opens : (u partial : ℕ) (chosen : List ℕ) (w : Walk) → u < trains b → Decided (shapeOf b) (heldCosts b) u partial chosen
-        → openedTrain (shapeOf b) (heldCosts b) budget (trains b - u) u partial chosen w ≡ choicesFrom b budget u 0 partial chosen w
+        → openedTrain (shapeOf b) (heldCosts b) (atBound b) budget (trains b - u) u partial chosen w ≡ choicesFrom b budget u 0 partial chosen w
     unfolding openedTrain
     opens u partial chosen w h d = rw (one-less u (trains b) h, sub-zero (size b u)) (tries-cong _ _ (size b u) 0 (λ a q. choice-same u partial chosen h d a (omega arith)) w)
 
@@ -83,11 +83,11 @@ module _ (b : List ℤ) (budget : ℕ) where
 
   -- one try, by its ways
   module _ (t a total : ℕ) (chosen : List ℕ) (w : Walk) where
-    pub try-spent : w .spent ≡ true → tryOf b budget t total chosen a w ≡ w
+    pub try-stopped : stopped w ≡ true → tryOf b budget t total chosen a w ≡ w
     unfolding oneTry tryOf
-    try-spent e = rw e
+    try-stopped e = rw e
 
-    module _ (e : w .spent ≡ false) where
+    module _ (e : stopped w ≡ false) where
       pub try-out : eqb (w .count) budget ≡ true → tryOf b budget t total chosen a w ≡ markedSpent w
       unfolding oneTry tryOf
       try-out f = rw (e, f)
@@ -99,11 +99,11 @@ module _ (b : List ℤ) (budget : ℕ) where
 
         -- what the next train does with the choices l and the walk v
         module _ {l : List ℕ} {v : Walk} (d : dropped w (leb wall total) total ≡ false) (p : l ≡ set chosen t a) (q : v ≡ counted w) where
-          try-next : tryOf b budget t total chosen a w ≡ openedTrain (shapeOf b) (heldCosts b) budget (trains b - (t + 1)) (t + 1) total l v
+          try-next : tryOf b budget t total chosen a w ≡ openedTrain (shapeOf b) (heldCosts b) (atBound b) budget (trains b - (t + 1)) (t + 1) total l v
           unfolding oneTry tryOf
           try-next = rw (p, q, e, f, d)
 
-          pub try-whole : t + 1 ≡ trains b → tryOf b budget t total chosen a w ≡ wholePlan total l v
+          pub try-whole : t + 1 ≡ trains b → tryOf b budget t total chosen a w ≡ wholePlan (atBound b) total l v
           try-whole h = try-next ∙ whole (t + 1) total l v h
 
           pub try-opens : Study b → t + 1 < trains b → Decided (shapeOf b) (heldCosts b) (t + 1) total l → tryOf b budget t total chosen a w ≡ choicesFrom b budget (t + 1) 0 total l v

@@ -1,103 +1,149 @@
 -- The ways of a try, by the numbers that the code holds, and the tries of a train: what an earlier try left at later trains is never looked at.
 use mathlib.Core.Path.{_≡_, refl, sym, ap, _∙_}
-use mathlib.Core.Bool.{Bool, true, false, cond, _&&_}
-use mathlib.Core.List.{List}
+use mathlib.Core.Bool.{Bool, true, false, cond, _&&_, _||_}
+use mathlib.Core.List.{List, [], _∷_}
 use Prim.Native.Nat.{ℕ, zero, suc, _+_, _-_, _^_, _<_, _≤_}
 use native.Mathlib.Omega.{arith}
 use lib.Dec.{leb, ltb, eqb}
 use lib.IntN.{ℤ}
 use lib.ListN.{getD, set}
-use borrow.Author.Tests.{lt-ltb, le-leb, leb-false, lt-leb, eq-eqb, ne-eqb}
+use borrow.Author.Tests.{lt-ltb, le-ltb, le-leb, leb-false, lt-leb, eq-eqb, ne-eqb}
 use Rattle.units.specs.Units.{theParts}
 use Rattle.tables.specs.Block.{maxChoices, trains, size}
 use Rattle.tables.specs.WellFormed.{Study}
 use Rattle.tables.specs.Plans.{choicesOf, shapeOf, heldCosts}
-use Rattle.tables.proofs.Study.{trains-range, pairs-range}
+use Rattle.tables.proofs.Study.{trains-range, scale-range, pairs-range}
 use Rattle.rows.specs.Walled.{wall}
 use Rattle.rows.specs.Sums.{Steady, Carrying, Sums}
 use Rattle.rows.specs.Links.{sumsLength}
-use Rattle.rows.specs.Table.{endsFrom, trainsPlace, beginOf}
+use Rattle.rows.specs.Table.{endsFrom, trainsPlace, beginOf, Laid}
 use Rattle.rows.proofs.Rows.{steady-refl, summed-cong, summed-steady, end-sum, end-low}
 use Rattle.rows.proofs.Written.{kept}
 use Rattle.search.specs.declared.walk.Walk.{Walk}
-use Rattle.search.specs.Walk.{Decided, counted, wholePlan, dropped, noChoices, nothingTried}
-use Rattle.search.specs.Held.{unknown, walkOf, Alike, At, Trying, comesTo, tryOf, choicesFrom}
+use Rattle.search.specs.Walk.{Decided, counted, wholePlan, stopped, dropped, noChoices, nothingTried, atBound}
+use Rattle.search.specs.Held.{unknown, toBeat, leftThen, leftOf, walkOf, meetsBy, Priced, Becomes, Going, Alike, At, Trying, comesTo, tryOf, choicesFrom}
 use Rattle.search.proofs.Room.{comes-low}
 use Rattle.search.proofs.Walled.{comes-decided}
 use Rattle.search.proofs.Alike.{alike-next, try-alike, decided-alike}
 use Rattle.search.proofs.Tries.{more-left}
 use Rattle.search.proofs.Studies.{study-walkable, study-limited, walled-limited, study-walled}
-use Rattle.search.proofs.Coded.{added-row, try-spent, try-out, try-dropped, try-whole, try-opens}
+use Rattle.search.proofs.Coded.{added-row, try-stopped, try-out, try-dropped, try-whole, try-opens}
 
--- walks whose tries agree
-same-tries : (c d : ℕ) (s r : Bool) (f : Bool) (t : ℕ) (plan : List ℕ) → c ≡ d → s ≡ r
-    → _≡_ {A = Walk} (record { count = c; spent = s; found = f; best = theParts t; plan = plan }) (record { count = d; spent = r; found = f; best = theParts t; plan = plan })
-same-tries c d s r f t plan p q = λ i. record { count = p i; spent = q i; found = f; best = theParts t; plan = plan }
+-- walks whose numbers agree
+same-walk : {c d : ℕ} {s r m n f g : Bool} {t u : ℕ} (plan : List ℕ) → c ≡ d → s ≡ r → m ≡ n → f ≡ g → t ≡ u
+    → _≡_ {A = Walk} (record { count = c; spent = s; met = m; found = f; best = theParts t; plan = plan }) (record { count = d; spent = r; met = n; found = g; best = theParts u; plan = plan })
+same-walk plan p q o k e = λ i. record { count = p i; spent = q i; met = o i; found = k i; best = theParts (e i); plan = plan }
 
-and-false : (a : Bool) → a && false ≡ false
-and-false true = refl
-and-false false = refl
+-- the bound and the scale in the table are the block's
+pub laid-meets : {b : List ℤ} {l : List ℕ} → Laid b l → (total : ℕ) → meetsBy l total ≡ atBound b total
+laid-meets p total = rw (p .s, p .bound)
 
-module _ (b : List ℤ) (budget t a total left best : ℕ) (chosen plan : List ℕ) (most : left ≤ budget + 1) (low : best ≤ wall) where
-  -- spent, or nothing left
+-- so a total below the wall can be priced
+pub laid-priced : {b : List ℤ} {l : List ℕ} → Study b → Laid b l → (total : ℕ) → total < wall → Priced l total
+laid-priced s p total h =
+    record { sound = record { low = omega (arith, p .s, scale-range s); high = omega (arith, p .s, scale-range s) }; room = omega arith }
+
+-- ---- a plan that becomes the best
+
+module _ {meets : Bool} {total rest left : ℕ} {best : List ℕ} (k : Becomes meets total rest left best) where
+  -- what is left stays
+  pub becomes-left : leftOf left best ≡ rest
+  becomes-left = by meets (k .kept) (k .on)
+    where
+      by : (m : Bool) → leftThen best ≡ cond m rest 0 → left ≡ cond m 0 rest → leftOf left best ≡ rest
+      by true e f = omega arith
+      by false e f = omega arith
+
+  -- with a try left, the bound is met where the plan meets it
+  becomes-met : 0 < rest → ltb 0 (leftThen best) ≡ meets
+  becomes-met h = by meets (k .kept)
+    where
+      by : (m : Bool) → leftThen best ≡ cond m rest 0 → ltb 0 (leftThen best) ≡ m
+      by true e = lt-ltb 0 (leftThen best) (omega arith)
+      by false e = le-ltb 0 (leftThen best) (omega arith)
+
+  pub becomes-going : total ≤ wall → Going left best
+  becomes-going h = by meets (k .kept) (k .on)
+    where
+      by : (m : Bool) → leftThen best ≡ cond m rest 0 → left ≡ cond m 0 rest → Going left best
+      by true e f = record { unmet = λ q. absurd (omega arith); low = omega (arith, k .beat) }
+      by false e f = record { unmet = λ q. e; low = omega (arith, k .beat) }
+
+module _ (b : List ℤ) (budget t a total left : ℕ) (best chosen plan : List ℕ) (most : leftOf left best ≤ budget + 1) (going : Going left best) where
+  -- stopped, or nothing left
   pub held-out : left ≤ 1 → walkOf budget 0 best plan ≡ tryOf b budget t total chosen a (walkOf budget left best plan)
   unfolding walkOf
-  held-out h = by left h
+  held-out h = by left h (going .unmet)
     where
-      by : (l : ℕ) → l ≤ 1 → walkOf budget 0 best plan ≡ tryOf b budget t total chosen a (walkOf budget l best plan)
-      by zero q = sym (try-spent b budget t a total chosen (walkOf budget 0 best plan) refl)
-      by (suc zero) q = sym (try-out b budget t a total chosen (walkOf budget 1 best plan) refl (eq-eqb (budget - (1 - 1)) budget (omega arith)))
-      by (suc (suc l)) q = absurd (omega arith)
+      still : (n : ℕ) → ltb 0 n || eqb (0 + n) 0 ≡ true
+      still zero = refl
+      still (suc n) = rw (lt-ltb 0 (suc n) (omega arith))
+
+      by : (l : ℕ) → l ≤ 1 → (0 < l → leftThen best ≡ 0) → walkOf budget 0 best plan ≡ tryOf b budget t total chosen a (walkOf budget l best plan)
+      by zero q f = sym (try-stopped b budget t a total chosen (walkOf budget 0 best plan) (still (leftThen best)))
+      by (suc zero) q f =
+          let z : leftThen best ≡ 0 = f (omega arith) in
+          same-walk plan (omega arith) (eq-eqb (leftOf 0 best) 0 (omega arith)) refl refl refl
+          ∙ sym (try-out b budget t a total chosen (walkOf budget 1 best plan) (rw (le-ltb 0 (leftThen best) (omega arith)) (ne-eqb (leftOf 1 best) 0 (λ e. omega arith)))
+          (eq-eqb (budget - (leftOf 1 best - 1)) budget (omega arith)))
+      by (suc (suc l)) q f = absurd (omega arith)
 
   module _ (more : 1 < left) where
-    unspent : walkOf budget left best plan .spent ≡ false
+    goes-on : stopped (walkOf budget left best plan) ≡ false
     unfolding walkOf
-    unspent = ne-eqb left 0 (λ e. omega arith)
+    goes-on = let z : leftThen best ≡ 0 = going .unmet (omega arith) in rw (le-ltb 0 (leftThen best) (omega arith)) (ne-eqb (leftOf left best) 0 (λ e. omega arith))
 
     within : eqb (walkOf budget left best plan .count) budget ≡ false
     unfolding walkOf
-    within = ne-eqb (budget - (left - 1)) budget (λ e. omega arith)
+    within = ne-eqb (budget - (leftOf left best - 1)) budget (λ e. omega arith)
 
     once : walkOf budget (left - 1) best plan ≡ counted (walkOf budget left best plan)
     unfolding walkOf
-    once = same-tries _ _ _ _ _ _ _ (omega arith) (ne-eqb (left - 1) 0 (λ e. omega arith) ∙ sym (ne-eqb left 0 (λ e. omega arith)))
+    once = same-walk plan (omega arith) (ne-eqb (leftOf (left - 1) best) 0 (λ e. omega arith) ∙ sym (ne-eqb (leftOf left best) 0 (λ e. omega arith))) refl refl refl
 
-    pub held-dropped : best ≤ total → walkOf budget (left - 1) best plan ≡ tryOf b budget t total chosen a (walkOf budget left best plan)
+    pub held-dropped : toBeat best ≤ total → walkOf budget (left - 1) best plan ≡ tryOf b budget t total chosen a (walkOf budget left best plan)
     unfolding walkOf
-    held-dropped h = once ∙ sym (try-dropped b budget t a total chosen (walkOf budget left best plan) unspent within drops)
+    held-dropped h = once ∙ sym (try-dropped b budget t a total chosen (walkOf budget left best plan) goes-on within drops)
       where
         -- at the wall, or at a known best
         by : (r : Bool) → leb wall total ≡ r → dropped (walkOf budget left best plan) r total ≡ true
         by true e = refl
-        by false e = let l : total < wall = leb-false wall total e in rw (lt-ltb best wall (omega arith)) (le-leb best total h)
+        by false e = let l : total < wall = leb-false wall total e in rw (lt-ltb (toBeat best) wall (omega arith)) (le-leb (toBeat best) total h)
 
         drops : dropped (walkOf budget left best plan) (leb wall total) total ≡ true
         drops = by (leb wall total) refl
 
-    module _ (less : total < best) where
+    module _ (less : total < toBeat best) where
       goes : dropped (walkOf budget left best plan) (leb wall total) total ≡ false
       unfolding walkOf
-      goes = rw (lt-leb wall total (omega arith)) (by (ltb best wall) refl)
+      goes = rw (lt-leb wall total (omega (arith, going .low))) (by (ltb (toBeat best) wall) refl)
         where
-          by : (k : Bool) → ltb best wall ≡ k → k && leb (cond k best 0) total ≡ false
-          by true e = lt-leb best total less
+          by : (k : Bool) → ltb (toBeat best) wall ≡ k → k && leb (cond k (toBeat best) 0) total ≡ false
+          by true e = lt-leb (toBeat best) total less
           by false e = refl
 
-      pub held-whole : t + 1 ≡ trains b → walkOf budget (left - 1) total (set chosen t a) ≡ tryOf b budget t total chosen a (walkOf budget left best plan)
+      pub held-whole : {left₁ : ℕ} {best₁ : List ℕ} → t + 1 ≡ trains b → Becomes (atBound b total) total (left - 1) left₁ best₁
+          → walkOf budget left₁ best₁ (set chosen t a) ≡ tryOf b budget t total chosen a (walkOf budget left best plan)
       unfolding walkOf
-      held-whole h = better ∙ sym (try-whole b budget t a total chosen (walkOf budget left best plan) unspent within goes refl once h)
+      held-whole {left₁} {best₁} h k = better ∙ sym (try-whole b budget t a total chosen (walkOf budget left best plan) goes-on within goes refl once h)
         where
-          better : walkOf budget (left - 1) total (set chosen t a) ≡ wholePlan total (set chosen t a) (walkOf budget (left - 1) best plan)
-          better = rw (lt-ltb total wall (omega arith))
+          below : ltb (toBeat best₁) wall ≡ true
+          below = lt-ltb (toBeat best₁) wall (omega (arith, k .beat, going .low))
+
+          better : walkOf budget left₁ best₁ (set chosen t a) ≡ wholePlan (atBound b) total (set chosen t a) (walkOf budget (left - 1) best plan)
+          better =
+              let z : leftThen best ≡ 0 = going .unmet (omega arith) in
+              let f : leftOf left₁ best₁ ≡ leftOf (left - 1) best = omega (arith, becomes-left k) in
+              same-walk (set chosen t a) (ap (λ (n : ℕ). budget - (n - 1)) f) (ap (λ (n : ℕ). eqb n 0) f) (becomes-met k (omega arith)) below (rw below (k .beat))
 
       pub held-opens : {w : Walk} → Study b → t + 1 < trains b → Decided (shapeOf b) (heldCosts b) (t + 1) total (set chosen t a) → w ≡ choicesFrom b budget (t + 1) 0 total (set chosen t a) (walkOf budget (left - 1) best plan)
           → w ≡ tryOf b budget t total chosen a (walkOf budget left best plan)
-      held-opens s h d e = e ∙ sym (try-opens b budget t a total chosen (walkOf budget left best plan) unspent within goes refl once s h d)
+      held-opens s h d e = e ∙ sym (try-opens b budget t a total chosen (walkOf budget left best plan) goes-on within goes refl once s h d)
 
 -- nothing tried, and a try left for each of the budget
-pub held-start : (budget : ℕ) → walkOf budget (budget + 1) unknown noChoices ≡ nothingTried
+pub held-start : (budget : ℕ) → walkOf budget (budget + 1) (unknown ∷ 0 ∷ []) noChoices ≡ nothingTried
 unfolding walkOf
-held-start budget = same-tries (budget - (budget + 1 - 1)) 0 (eqb (budget + 1) 0) false false 0 noChoices (omega arith) (ne-eqb (budget + 1) 0 (λ e. omega arith))
+held-start budget = same-walk noChoices (omega arith) (ne-eqb (budget + 1 + 0) 0 (λ e. omega arith)) refl refl refl
 
 -- ---- where a try stands
 

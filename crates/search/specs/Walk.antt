@@ -1,4 +1,5 @@
--- Document 01, '06 search', with document 02, change 5, 'a try that brings a forbidden entry in counts and is dropped': the walk over plans, of a problem's shape and costs. A block's walk is that of its shape and its held costs.
+-- Document 01, '06 search', with document 02, change 5, 'a try that brings a forbidden entry in counts and is dropped', and change 6, 'A search should end when a new best plan's cost equals the published bound': the walk over plans, of a problem's shape and costs and a test of totals.
+-- A block's walk is that of its shape and its held costs, and the test is that of its published bound.
 use mathlib.Core.Path.{_≡_}
 use mathlib.Core.Bool.{Bool, true, false, cond, not, _&&_, _||_}
 use mathlib.Core.List.{List}
@@ -8,9 +9,10 @@ use lib.IntN.{ℤ}
 use lib.ListN.{length, set, replicate}
 use Rattle.theory.specs.Sum.{sum}
 use Rattle.theory.specs.Range.{all}
-use Rattle.units.specs.Units.{theParts}
-use Rattle.tables.specs.Block.{maxTrains}
+use Rattle.units.specs.Units.{theParts, roundedUp}
+use Rattle.tables.specs.Block.{maxTrains, scale}
 use Rattle.tables.specs.Plans.{choicesOf, Shape, Costs, shapeOf, heldCosts}
+use Rattle.bounds.specs.Bounds.{boundOf}
 use Rattle.search.specs.declared.walk.Walk.{Walk}
 
 -- ---- what is forbidden
@@ -50,15 +52,19 @@ module _ (s : Shape) (c : Costs) where
 
 -- 'Each try counts 1'
 abbrev pub counted : Walk → Walk
-counted w = record { count = w .count + 1; spent = w .spent; found = w .found; best = w .best; plan = w .plan }
+counted w = record { count = w .count + 1; spent = w .spent; met = w .met; found = w .found; best = w .best; plan = w .plan }
 
 -- 'the walk is spent'
 abbrev pub markedSpent : Walk → Walk
-markedSpent w = record { count = w .count; spent = true; found = w .found; best = w .best; plan = w .plan }
+markedSpent w = record { count = w .count; spent = true; met = w .met; found = w .found; best = w .best; plan = w .plan }
 
--- 'A whole plan not dropped becomes the best'
-abbrev pub wholePlan : ℕ → List ℕ → Walk → Walk
-wholePlan total chosen w = record { count = w .count; spent = w .spent; found = true; best = theParts total; plan = chosen }
+-- 'A whole plan not dropped becomes the best'; whether 'a new best plan's cost equals the published bound', its total tells
+abbrev pub wholePlan : (ℕ → Bool) → ℕ → List ℕ → Walk → Walk
+wholePlan meets total chosen w = record { count = w .count; spent = w .spent; met = meets total; found = true; best = theParts total; plan = chosen }
+
+-- nothing more is tried: the best met the bound, or the walk is spent
+abbrev pub stopped : Walk → Bool
+stopped w = w .met || w .spent
 
 -- the first function where the test holds, else the second. A function waits until it is applied, so only one is computed
 abbrev pub pickWalk : Bool → (Walk → Walk) → (Walk → Walk) → Walk → Walk
@@ -77,10 +83,10 @@ dropped w bar total = bar || beaten w total
 abbrev pub countedTry : Bool → ℕ → (Walk → Walk) → Walk → Walk
 countedTry bar total next w = pickWalk (dropped w bar total) counted (λ v. next (counted v)) w
 
--- 'Before each try, if the count equals the budget, the walk is spent'; once spent it tries nothing more
+-- 'Before each try, if the count equals the budget, the walk is spent'; 'That rule and the budget rule can meet on one try; the bound comes first'
 unfoldable pub oneTry : ℕ → Bool → ℕ → (Walk → Walk) → Walk → Walk
 oneTry budget bar total next w =
-    pickWalk (w .spent) (λ v. v)
+    pickWalk (stopped w) (λ v. v)
     (pickWalk (eqb (w .count) budget) markedSpent (countedTry bar total next)) w
 
 -- ---- trains and choices
@@ -96,7 +102,7 @@ noChoices = replicate maxTrains 0
 
 -- nothing tried
 abbrev pub nothingTried : Walk
-nothingTried = record { count = 0; spent = false; found = false; best = theParts 0; plan = noChoices }
+nothingTried = record { count = 0; spent = false; met = false; found = false; best = theParts 0; plan = noChoices }
 
 module _ (s : Shape) (c : Costs) (budget : ℕ) where
   -- 'trying a choice opens the next train': the try of choice a at train t, given what opening the next train does
@@ -106,15 +112,20 @@ module _ (s : Shape) (c : Costs) (budget : ℕ) where
       let total = partial + added s c (choicesOf with) t in
       oneTry budget (barred s (choicesOf with) t) total (next total with)
 
+module _ (s : Shape) (c : Costs) (meets : ℕ → Bool) (budget : ℕ) where
   -- 'Opening a train tries its choices', with `left` trains left from train t on; with none left the plan is whole
   unfoldable pub openedTrain : ℕ → ℕ → ℕ → List ℕ → Walk → Walk
-  openedTrain zero t partial chosen w = wholePlan partial chosen w
+  openedTrain zero t partial chosen w = wholePlan meets partial chosen w
   openedTrain (suc left) t partial chosen w =
-      triedFrom (choiceTry (openedTrain left (t + 1)) t partial chosen) (s .size t) 0 w
+      triedFrom (choiceTry s c budget (openedTrain left (t + 1)) t partial chosen) (s .size t) 0 w
 
   -- the whole walk: from c0, over all trains
   unfoldable pub walked : Walk
   walked = openedTrain (s .trains) 0 (c .constant) noChoices nothingTried
+
+-- document 01's walk: no total ends it
+abbrev pub never : ℕ → Bool
+never total = false
 
 -- ---- how many tries there are
 
@@ -133,6 +144,10 @@ allTries s = triesFrom (s .size) (s .trains) 0
 
 -- ---- the search of a block
 
--- a search walks over the shape that the block holds, by T and c0
+-- a total's 'cost equals the published bound': both in points
+abbrev pub atBound : List ℤ → ℕ → Bool
+atBound b total = eqb (roundedUp (scale b) total) (boundOf b)
+
+-- a search walks over the shape that the block holds, by T and c0, and ends at its bound
 unfoldable pub searched : List ℤ → ℕ → Walk
-searched b budget = walked (shapeOf b) (heldCosts b) budget
+searched b budget = walked (shapeOf b) (heldCosts b) (atBound b) budget

@@ -45,7 +45,7 @@ fn walked(b: &[i64], budget: u64) -> Walk
     table::lay_own(b, &mut sums);
     let mut chosen = [0u8; Block::TRAINS];
     let mut plan = [0u8; Block::TRAINS];
-    let mut best = Walk::UNKNOWN;
+    let mut best = [Walk::UNKNOWN, 0];
     let left = walk::open_train(
         &table,
         &mut sums,

@@ -1,20 +1,30 @@
 // Document 01, '06 search': 'Opening a train tries its choices; trying a choice opens the next train.'
 //
-// What a walk has is lent: the choices so far, the best plan, and the total to beat. `left` is handed on: one more than the tries left, and 0 once the walk is spent.
+// What a walk has is lent: the choices so far, the best plan, and for the best two numbers: the total to beat, and what was left when the bound was met, 0 before. `left` is handed on: one more than the tries left, and 0 once nothing more is tried.
 ghost use mathlib.Core.Path.{_≡_};
 ghost use mathlib.Core.Bool.{cond};
 ghost use Prim.Native.Nat.{_+_, _-_, _≤_};
 ghost use lib.Dec.{ltb};
-ghost use Rattle.search.specs.Held.{unknown, walkOf, Opened, Tried, OpenedTo, TriedTo};
+ghost use Rattle.tables.specs.LineLimits.{maxBudget};
+ghost use Rattle.search.specs.Held.{unknown, leftOf, walkOf, meetsBy, Priced, Becomes, Opened, Tried, OpenedTo, TriedTo};
 use rows::sums;
 use rows::table;
 use tables::block::Block;
 use units::Parts;
+use units::Scale;
 
-// What a walk comes to: the tries counted, whether the budget ran out, and the best plan with its total.
+// How many numbers are lent for the best.
+pub const BEST: usize = 2;
+// The place of the total to beat among them.
+const TO_BEAT: usize = 0;
+// The place of what was left when the bound was met.
+const LEFT_THEN: usize = 1;
+
+// What a walk comes to: the tries counted, whether the budget ran out, whether the best plan met the bound, and the best plan with its total.
 pub struct Walk {
     pub count: u64,
     pub spent: bool,
+    pub met: bool,
     pub found: bool,
     pub best: Parts,
     pub plan: [u8; Block::TRAINS],
@@ -44,19 +54,45 @@ impl Walk {
         0
     }
 
-    // The walk that `left`, the total to beat and the best plan stand for.
-    pub fn held(budget: u64, left: u64, best: u64, plan: [u8; Block::TRAINS]) -> Walk
-        requires { ⌜ left ≤ budget + 1 ⌝ }
+    // The walk that `left`, what is lent for the best, and the best plan stand for.
+    pub fn held(budget: u64, left: u64, best: [u64; BEST], plan: [u8; Block::TRAINS]) -> Walk
+        requires { ⌜ (leftOf left best ≤ budget + 1) × (budget ≤ maxBudget) ⌝ }
         ensures { λ r. ⌜ r ≡ walkOf budget left best plan ⌝ }
     {
+        let rest = left + best[LEFT_THEN];
+        let total = best[TO_BEAT];
         Walk {
-            count: budget - Self::tries(left),
-            spent: left == 0,
-            found: best < Self::UNKNOWN,
-            best: Parts::of(Self::total(best)),
+            count: budget - Self::tries(rest),
+            spent: rest == 0,
+            met: 0 < best[LEFT_THEN],
+            found: total < Self::UNKNOWN,
+            best: Parts::of(Self::total(total)),
             plan,
         }
     }
+}
+
+// Whether a total's cost is the published bound: both in points.
+fn meets(table: &[u64; table::LENGTH], total: Parts) -> bool
+    requires { ⌜ Priced (now table) (total .0) ⌝ }
+    ensures { λ r. ⌜ r ≡ meetsBy (now (table .entry)) (total .0) ⌝ }
+{
+    let cost = Scale::known(table[table::SCALE_PLACE]).bound(total);
+    cost.number() == table[table::BOUND_PLACE]
+}
+
+// A whole plan becomes the best, with `rest` left. Where it meets the bound nothing more is tried: `rest` is kept, and 0 handed on.
+fn become_best(table: &[u64; table::LENGTH], best: &mut [u64; BEST], total: Parts, rest: u64) -> u64
+    requires { ⌜ Priced (now table) (total .0) ⌝ }
+    ensures { λ r. ⌜ Becomes (meetsBy (now (table .entry)) (total .0)) (total .0) rest r (now (best .exit)) ⌝ }
+{
+    let parts = total.number();
+    if meets(table, total) {
+        *best = [parts, rest];
+        return 0;
+    }
+    *best = [parts, 0];
+    rest
 }
 
 // Opens train t: what its choices come to is taken from the sums, then they are tried, from 0 on. The result is what is left.
@@ -65,12 +101,12 @@ pub fn open_train(
     sums: &mut [u64; sums::LENGTH],
     chosen: &mut [u8; Block::TRAINS],
     plan: &mut [u8; Block::TRAINS],
-    best: &mut u64,
+    best: &mut [u64; BEST],
     t: usize,
     partial: Parts,
     left: u64,
 ) -> u64
-    requires { ⌜ Opened (now table) (now sums) t (partial .0) (now chosen) (now best) ⌝ }
+    requires { ⌜ Opened (now table) (now sums) t (partial .0) (now chosen) left (now best) ⌝ }
     ensures { λ r. ⌜ OpenedTo (now (table .entry)) (now (sums .entry)) t (partial .0) (now (chosen .entry)) left (now (best .entry)) (now (plan .entry)) r (now (best .exit)) (now (plan .exit)) (now (chosen .exit)) (now (sums .exit)) ⌝ }
 {
     let row = sums::row_from(sums, table[table::ENDS_FROM + t] as usize, partial);
@@ -91,13 +127,13 @@ fn try_choice(
     sums: &mut [u64; sums::LENGTH],
     chosen: &mut [u8; Block::TRAINS],
     plan: &mut [u8; Block::TRAINS],
-    best: &mut u64,
+    best: &mut [u64; BEST],
     t: usize,
     a: usize,
     total: Parts,
     left: u64,
 ) -> u64
-    requires { ⌜ Tried (now table) (now sums) t a (total .0) (now chosen) (now best) ⌝ }
+    requires { ⌜ Tried (now table) (now sums) t a (total .0) (now chosen) left (now best) ⌝ }
     ensures { λ r. ⌜ TriedTo (now (table .entry)) (now (sums .entry)) t a (total .0) (now (chosen .entry)) left (now (best .entry)) (now (plan .entry)) r (now (best .exit)) (now (plan .exit)) (now (chosen .exit)) (now (sums .exit)) ⌝ }
 {
     if left <= 1 {
@@ -105,15 +141,14 @@ fn try_choice(
     }
     let rest = left - 1;
     let parts = total.number();
-    if *best <= parts {
+    if best[TO_BEAT] <= parts {
         return rest;
     }
     chosen[t] = a as u8;
     let u = t + 1;
     if u == table[table::TRAINS_PLACE] as usize {
-        *best = parts;
         *plan = *chosen;
-        return rest;
+        return become_best(table, best, total, rest);
     }
     sums::carry(table, sums, chosen, t);
     open_train(table, sums, chosen, plan, best, u, total, rest)

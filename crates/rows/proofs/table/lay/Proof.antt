@@ -2,6 +2,7 @@
 use borrow.Author.Needs.{needs}
 use mathlib.Core.Path.{_∙_}
 use native.Mathlib.Omega.{arith}
+use lib.ListN.{length-set}
 use Rattle.tables.proofs.Study.{trains-range}
 use Rattle.rows.proofs.Laying.{laid}
 use Rattle.rows.proofs.table.lay.Statement.{statement}
@@ -38,18 +39,33 @@ copy-requires-2 c κs =
     let w = d₄ .fill-begins .ensures .same ∙ d₃ .fill-rows .ensures .same ∙ d₂ .copy .ensures .same ∙ d₁ .lay-costs .ensures .same ∙ s .pre .1 in
     (omega (arith, s .pre .0 .whole), omega (arith, w), omega (arith, w))
 
+published-requires : tie.Need-published-requires
+published-requires c κs = search needs
+
+number-requires : tie.Need-number-requires
+number-requires c κs = search needs
+
+slice-write-table : tie.Need-slice-write-table
+slice-write-table c = search needs
+
 same-length : tie.Need-same-length
-same-length c = search needs
+same-length c =
+    let d₅ = c .before .before .before .before in
+    let d₄ = d₅ .before .before .before .before in
+    let d₃ = d₄ .before .before .before .before in
+    let d₂ = d₃ .before .before .before .before in
+    let d₁ = d₂ .before .before .before .before .before in
+    simp length-set (d₅ .copy2 .ensures .same ∙ d₄ .fill-begins .ensures .same ∙ d₃ .fill-rows .ensures .same ∙ d₂ .copy .ensures .same ∙ d₁ .lay-costs .ensures .same)
 
 returns : tie.Need-returns
 returns c =
-    let d₅ = c .before .before in
+    let d₅ = c .before .before .before .before in
     let d₄ = d₅ .before .before .before .before in
     let d₃ = d₄ .before .before .before .before in
     let d₂ = d₃ .before .before .before .before in
     let d₁ = d₂ .before .before .before .before .before in
     let s = d₁ .before .before .before in
-    laid (s .pre .0) (d₂ .before .before .trains .ensures) (s .pre .1) (d₁ .lay-costs .ensures) (d₂ .copy .ensures) (d₃ .fill-rows .ensures) (d₄ .fill-begins .ensures) (d₅ .copy2 .ensures)
+    laid (s .pre .0) (d₂ .before .before .trains .ensures) (c .number .ensures ∙ c .before .published .ensures) (s .pre .1) (d₁ .lay-costs .ensures) (d₂ .copy .ensures) (d₃ .fill-rows .ensures) (d₄ .fill-begins .ensures) (d₅ .copy2 .ensures)
 
 pub lay-spec : {M : Type 1} → statement M
-lay-spec = tie.close (tie.spec lay-costs-requires trains-requires copy-requires fill-rows-requires fill-begins-requires copy-requires-2 same-length returns)
+lay-spec = tie.close (tie.spec lay-costs-requires trains-requires copy-requires fill-rows-requires fill-begins-requires copy-requires-2 published-requires number-requires slice-write-table same-length returns)

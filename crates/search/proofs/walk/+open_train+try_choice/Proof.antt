@@ -14,11 +14,11 @@ use Rattle.tables.proofs.Study.{trains-range, size-range}
 use Rattle.rows.specs.Walled.{wall}
 use Rattle.rows.specs.Sums.{Steady, Sums}
 use Rattle.rows.specs.Table.{sizesFrom, trainsPlace, beginOf}
-use Rattle.search.specs.Held.{walkOf, Alike, At, comesTo, choicesFrom}
+use Rattle.search.specs.Held.{leftOf, walkOf, Going, Alike, At, comesTo, choicesFrom}
 use Rattle.search.proofs.Tries.{none-left}
 use Rattle.search.proofs.Alike.{alike-refl, alike-trans, alike-less, alike-set}
 use Rattle.rows.proofs.Rows.{begin-next, steady-refl, steady-trans, steady-less}
-use Rattle.search.proofs.Held.{held-out, held-dropped, held-whole, held-opens, trying-at, tries-next, at-sums, at-room, at-place, carrying-at}
+use Rattle.search.proofs.Held.{laid-meets, laid-priced, becomes-left, becomes-going, held-out, held-dropped, held-whole, held-opens, trying-at, tries-next, at-sums, at-room, at-place, carrying-at}
 use Rattle.search.proofs.walk.open_train.Reads as open-train
 use Rattle.search.proofs.walk.open_train.Kinds as open-train-kinds
 use Rattle.search.proofs.walk.+open_train+try_choice.Lts-open_train as open-train-lts
@@ -27,6 +27,7 @@ use Rattle.search.proofs.walk.try_choice.Kinds as try-choice-kinds
 use Rattle.search.proofs.walk.+open_train+try_choice.Lts-try_choice as try-choice-lts
 use Rattle.units.proofs.Parts.of.Reads as of-reads
 use Rattle.units.proofs.Parts.number.Reads as number-reads
+use Rattle.search.proofs.walk.become_best.Reads as become-best-reads
 use Rattle.rows.proofs.sums.carry.Reads as carry-reads
 use Rattle.rows.proofs.sums.row_from.Reads as row-from-reads
 use Rattle.search.proofs.walk.+open_train+try_choice.{statement}
@@ -54,11 +55,11 @@ try-choice-below t = and 5 try-choice-kinds.ps (falls 5 try-choice-kinds.ps _<_ 
 abbrev open-train-Inv-loop : open-train-lts.InvT-loop
 open-train-Inv-loop table sums₀ chosen₀ plan₀ best₀ t left row d rest₀ a₀ sums chosen plan best rest a =
     (a ≤ d)
-    × (rest ≤ rest₀)
-    × (best ≤ best₀)
+    × (leftOf rest best ≤ leftOf rest₀ best₀)
+    × Going rest best
     × Alike t (getD table trainsPlace 0) chosen₀ chosen
     × Steady (beginOf table t) sums₀ sums
-    × ((b : List ℤ) (budget partial : ℕ) → At b table sums₀ t partial chosen₀ → Sums (comesTo b t partial chosen₀) row → rest₀ ≤ budget + 1
+    × ((b : List ℤ) (budget partial : ℕ) → At b table sums₀ t partial chosen₀ → Sums (comesTo b t partial chosen₀) row → leftOf rest₀ best₀ ≤ budget + 1
     → choicesFrom b budget t a partial chosen₀ (walkOf budget rest best plan) ≡ choicesFrom b budget t 0 partial chosen₀ (walkOf budget rest₀ best₀ plan₀))
 
 abbrev open-train-μ-loop : open-train-lts.MeasureT-loop
@@ -69,7 +70,7 @@ abbrev open-calls : ℕ → open-train-lts.Claims
 open-calls t = (row-from-reads.Asked, row-from-reads.Learnt, of-reads.Asked, of-reads.Learnt, try-choice-below t, try-choice.Post)
 
 abbrev try-calls : ℕ → try-choice-lts.Claims
-try-calls t = (number-reads.Asked, number-reads.Learnt, carry-reads.Asked, carry-reads.Learnt, open-train-below t, open-train.Post)
+try-calls t = (number-reads.Asked, number-reads.Learnt, become-best-reads.Asked, become-best-reads.Learnt, carry-reads.Asked, carry-reads.Learnt, open-train-below t, open-train.Post)
 
 module _ (t : ℕ) where
   o-add-row-from : open-train-lts.Need-add-row-from (open-calls t) (open-train-at t) open-train.Post open-train-Inv-loop open-train-μ-loop
@@ -108,7 +109,7 @@ module _ (t : ℕ) where
       omega (arith, p .train, trains-range (p .study))
 
   o-loop-holds : open-train-lts.Need-loop-holds (open-calls t) (open-train-at t) open-train.Post open-train-Inv-loop open-train-μ-loop
-  o-loop-holds c = (omega arith, omega arith, omega arith, alike-refl _ _ _, steady-refl _ _, λ b budget partial p f h. refl)
+  o-loop-holds c = (omega arith, omega arith, c .before .before .before .before .pre .1 .going, alike-refl _ _ _, steady-refl _ _, λ b budget partial p f h. refl)
 
   o-mul-of : open-train-lts.Need-mul-of (open-calls t) (open-train-at t) open-train.Post open-train-Inv-loop open-train-μ-loop
   o-mul-of c =
@@ -137,7 +138,7 @@ module _ (t : ℕ) where
       let e = p .laid .sizes (s .args .t) (p .train) in
       let h : l .a < size (q .block) (s .args .t) = omega (arith, e) in
       let g = d .of .ensures ∙ at-sums p (r .row-from .ensures) .each (l .a) (omega (arith, z)) in
-      (omega (arith, p .train, p .laid .n, z, e), record { block = q .block; at = trying-at p h g (l .inv .3) (l .inv .4); low = omega (arith, l .inv .2, q .low) })
+      (omega (arith, p .train, p .laid .n, z, e), record { block = q .block; at = trying-at p h g (l .inv .3) (l .inv .4); going = l .inv .2 })
 
   o-add-a : open-train-lts.Need-add-a (open-calls t) (open-train-at t) open-train.Post open-train-Inv-loop open-train-μ-loop
   o-add-a c =
@@ -156,7 +157,7 @@ module _ (t : ℕ) where
       let r = c .try-choice .ensures in (
         omega arith,
         omega (arith, r .fewer, l .inv .1),
-        omega (arith, r .lower, l .inv .2),
+        r .going,
         alike-trans (l .inv .3) (r .kept),
         steady-trans (l .inv .4) (r .steady),
         λ b budget partial p f m.
@@ -174,7 +175,7 @@ module _ (t : ℕ) where
             let e : l .a ≡ size b (s .args .t) = omega (arith, p .laid .sizes (s .args .t) (p .train)) in
             sym (none-left _ _ _ _ e) ∙ l .inv .5 b budget _ p (at-sums p (c .before .before .before .row-from .ensures)) m;
         fewer = l .inv .1;
-        lower = l .inv .2;
+        going = l .inv .2;
         kept = l .inv .3;
         steady = l .inv .4;
       }
@@ -183,9 +184,9 @@ module _ (t : ℕ) where
   t-returns c =
       let s = c .before in
       record {
-        walk = λ b budget p m. held-out b budget (s .args .t) (s .args .a) (s .args .total .0) (s .args .left) (s .args .best .now) (s .args .chosen .now) (s .args .plan .now) m (s .pre .1 .low) (c .if1 .taken);
+        walk = λ b budget p m. held-out b budget (s .args .t) (s .args .a) (s .args .total .0) (s .args .left) (s .args .best .now) (s .args .chosen .now) (s .args .plan .now) m (s .pre .1 .going) (c .if1 .taken);
         fewer = omega arith;
-        lower = omega arith;
+        going = record { unmet = λ h. absurd (omega arith); low = s .pre .1 .going .low };
         kept = alike-refl _ _ _;
         steady = steady-refl _ _;
       }
@@ -196,13 +197,16 @@ module _ (t : ℕ) where
   t-number-requires : try-choice-lts.Need-number-requires (try-calls t) (try-choice-at t) try-choice.Post
   t-number-requires c κs = search needs
 
+  t-element-copy-out-if2 : try-choice-lts.Need-element-copy-out-if2 (try-calls t) (try-choice-at t) try-choice.Post
+  t-element-copy-out-if2 c = search needs
+
   t-returns-2 : try-choice-lts.Need-returns-2 (try-calls t) (try-choice-at t) try-choice.Post
   t-returns-2 c =
       let s = c .before .before .before .before in
       record {
-        walk = λ b budget p m. held-dropped b budget (s .args .t) (s .args .a) (s .args .total .0) (s .args .left) (s .args .best .now) (s .args .chosen .now) (s .args .plan .now) m (s .pre .1 .low) (c .before .before .before .if1 .left) (rw (c .before .before .number .ensures) at (c .if2 .taken));
+        walk = λ b budget p m. held-dropped b budget (s .args .t) (s .args .a) (s .args .total .0) (s .args .left) (s .args .best .now) (s .args .chosen .now) (s .args .plan .now) m (s .pre .1 .going) (c .before .before .before .if1 .left) (rw (c .before .before .number .ensures) at (c .if2 .taken));
         fewer = omega arith;
-        lower = omega arith;
+        going = record { unmet = λ h. s .pre .1 .going .unmet (omega arith); low = s .pre .1 .going .low };
         kept = alike-refl _ _ _;
         steady = steady-refl _ _;
       }
@@ -226,15 +230,25 @@ module _ (t : ℕ) where
   t-element-copy-out-if3 : try-choice-lts.Need-element-copy-out-if3 (try-calls t) (try-choice-at t) try-choice.Post
   t-element-copy-out-if3 c = search needs
 
+  t-become-best-requires : try-choice-lts.Need-become-best-requires (try-calls t) (try-choice-at t) try-choice.Post
+  t-become-best-requires c κs =
+      let d = c .before in
+      let s = d .before .before .before .before .before .before .before in
+      let q = s .pre .1 in
+      let e = d .before .before .before .before .before .number .ensures in
+      laid-priced (q .at .study) (q .at .laid) (s .args .total .0) (omega (arith, q .going .low, e, d .before .before .before .if2 .left))
+
   t-returns-3 : try-choice-lts.Need-returns-3 (try-calls t) (try-choice-at t) try-choice.Post
   t-returns-3 c =
-      let s = c .before .before .before .before .before .before .before in
+      let d = c .before .before in
+      let s = d .before .before .before .before .before .before .before in
       let q = s .pre .1 .at in
-      let e = c .before .before .before .before .before .number .ensures in
+      let e = d .before .before .before .before .before .number .ensures in
+      let k = c .become-best .ensures in
       record {
-        walk = λ b budget p m. rw e (held-whole b budget (s .args .t) (s .args .a) (s .args .total .0) (s .args .left) (s .args .best .now) (s .args .chosen .now) (s .args .plan .now) m (s .pre .1 .low) (c .before .before .before .before .before .before .if1 .left) (rw e at (c .before .before .before .if2 .left)) (c .before .if3 .taken ∙ p .laid .n));
-        fewer = omega arith;
-        lower = omega (arith, e, c .before .before .before .if2 .left);
+        walk = λ b budget p m. held-whole b budget (s .args .t) (s .args .a) (s .args .total .0) (s .args .left) (s .args .best .now) (s .args .chosen .now) (s .args .plan .now) m (s .pre .1 .going) (d .before .before .before .before .before .before .if1 .left) (rw e at (d .before .before .before .if2 .left)) (d .before .if3 .taken ∙ p .laid .n) (rw (laid-meets (p .laid) (s .args .total .0)) at k);
+        fewer = omega (arith, becomes-left k);
+        going = becomes-going k (omega (arith, e, s .pre .1 .going .low, d .before .before .before .if2 .left));
         kept = alike-set _ _ _ _ (omega (arith, q .train, q .laid .n));
         steady = steady-refl _ _;
       }
@@ -243,7 +257,7 @@ module _ (t : ℕ) where
   t-carry-requires c κs =
       let s = c .before .before .before .before .before .before .before .before in
       let q = s .pre .1 in
-      let low : s .args .total .0 < wall = omega (arith, q .low, c .before .before .before .before .before .before .number .ensures, c .before .before .before .before .if2 .left) in
+      let low : s .args .total .0 < wall = omega (arith, q .going .low, c .before .before .before .before .before .before .number .ensures, c .before .before .before .before .if2 .left) in
       record { block = q .block; at = carrying-at (q .at) low }
 
   t-open-train-requires : try-choice-lts.Need-open-train-requires (try-calls t) (try-choice-at t) try-choice.Post
@@ -252,12 +266,12 @@ module _ (t : ℕ) where
       let q = s .pre .1 in
       let p = q .at in
       let h : s .args .t + 1 < trains (q .block) = omega (arith, p .train, p .laid .n, c .before .before .before .before .before .before .before .if3 .left) in
-      let low : s .args .total .0 < wall = omega (arith, q .low, c .before .before .before .before .before .before .before .before .before .before .before .number .ensures, c .before .before .before .before .before .before .before .before .before .if2 .left) in (
+      let low : s .args .total .0 < wall = omega (arith, q .going .low, c .before .before .before .before .before .before .before .before .before .before .before .number .ensures, c .before .before .before .before .before .before .before .before .before .if2 .left) in (
         omega (arith, p .choice, p .laid .sizes (s .args .t) (p .train)),
         record {
           block = q .block;
           at = record { study = p .study; laid = p .laid; train = h; decided = p .decided low; summed = c .before .before .before .before .carry .ensures .summed (q .block) (carrying-at p low) };
-          low = q .low;
+          going = record { unmet = λ g. q .going .unmet (omega arith); low = q .going .low };
         },
       )
 
@@ -268,14 +282,14 @@ module _ (t : ℕ) where
       let q = o .at in
       let r = c .open-train .ensures in
       let d = c .before .before .before .before .before .carry .ensures in
-      let low : s .args .total .0 < wall = omega (arith, o .low, c .before .before .before .before .before .before .before .before .before .before .before .before .number .ensures, c .before .before .before .before .before .before .before .before .before .before .if2 .left) in
+      let low : s .args .total .0 < wall = omega (arith, o .going .low, c .before .before .before .before .before .before .before .before .before .before .before .before .number .ensures, c .before .before .before .before .before .before .before .before .before .before .if2 .left) in
       record {
         walk = λ b budget p m.
             let h : s .args .t + 1 < trains b = omega (arith, p .train, p .laid .n, c .before .before .before .before .before .before .before .before .if3 .left) in
-            held-opens b budget (s .args .t) (s .args .a) (s .args .total .0) (s .args .left) (s .args .best .now) (s .args .chosen .now) (s .args .plan .now) m (o .low) (c .before .before .before .before .before .before .before .before .before .before .before .before .before .if1 .left) (rw (c .before .before .before .before .before .before .before .before .before .before .before .before .number .ensures) at (c .before .before .before .before .before .before .before .before .before .before .if2 .left)) (p .study) h (p .decided low)
+            held-opens b budget (s .args .t) (s .args .a) (s .args .total .0) (s .args .left) (s .args .best .now) (s .args .chosen .now) (s .args .plan .now) m (o .going) (c .before .before .before .before .before .before .before .before .before .before .before .before .before .if1 .left) (rw (c .before .before .before .before .before .before .before .before .before .before .before .before .number .ensures) at (c .before .before .before .before .before .before .before .before .before .before .if2 .left)) (p .study) h (p .decided low)
             (r .walk b budget (record { study = p .study; laid = p .laid; train = h; decided = p .decided low; summed = d .summed b (carrying-at p low) }) (omega arith));
         fewer = omega (arith, r .fewer);
-        lower = omega (arith, r .lower);
+        going = r .going;
         kept = alike-trans (alike-set _ _ _ _ (omega (arith, q .train, q .laid .n))) (alike-less (r .kept));
         steady = steady-trans (d .steady)
             (steady-less (begin-next (o .block) (s .args .t) _ _ (q .laid .begins (s .args .t) (omega (arith, q .train))) (q .laid .begins (s .args .t + 1) (omega (arith, q .train)))) (r .steady));
@@ -284,4 +298,4 @@ module _ (t : ℕ) where
 pub +open-train+try-choice-spec : {M : Type 1} → statement M
 +open-train+try-choice-spec = close μ-open-train μ-try-choice
     (λ t. open-train-lts.spec (open-calls t) (open-train-at t) open-train.Post open-train-Inv-loop open-train-μ-loop (o-add-row-from t) (o-mul-row-from t) (o-element-copy-out-row-from t) (o-row-from-requires t) (o-add-d t) (o-mul-d t) (o-element-copy-out-d t) (o-loop-holds t) (o-mul-of t) (o-array-read-of t) (o-of-requires t) (o-try-choice-requires t) (o-add-a t) (o-loop-less t) (o-loop-again t) (o-returns t))
-    (λ t. try-choice-lts.spec (try-calls t) (try-choice-at t) try-choice.Post (t-returns t) (t-sub-rest t) (t-number-requires t) (t-returns-2 t) (t-cast-chosen t) (t-element-write-chosen t) (t-add-u t) (t-element-copy-out-if3 t) (t-returns-3 t) (t-carry-requires t) (t-open-train-requires t) (t-returns-4 t))
+    (λ t. try-choice-lts.spec (try-calls t) (try-choice-at t) try-choice.Post (t-returns t) (t-sub-rest t) (t-number-requires t) (t-element-copy-out-if2 t) (t-returns-2 t) (t-cast-chosen t) (t-element-write-chosen t) (t-add-u t) (t-element-copy-out-if3 t) (t-become-best-requires t) (t-returns-3 t) (t-carry-requires t) (t-open-train-requires t) (t-returns-4 t))

@@ -1,0 +1,2 @@
+-- The rule, and nothing besides.
+pub mod Bounds
