@@ -1,7 +1,9 @@
 //! What is timed: studies, and lines on the blocks that hold them.
 
+use reference::clause_lines::clause_fields;
+use reference::clauses::{Clause, Clauses};
 use reference::generator::{certificate_fields, line_of, load_fields, shift_fields};
-use reference::lines::{digits, put};
+use reference::lines::{digits, put, CLAUSES};
 use reference::model::{self, Costs, Pair, Study, BLOCK_LENGTH};
 use reference::operations::Certificate;
 use reference::random::Random;
@@ -16,10 +18,15 @@ pub const SMALL_BUDGET: i64 = 100;
 pub const LONG_BUDGET: i64 = 10_000_000;
 /// The full studies of the long searches: the seed and the highest cost of each.
 pub const LONG_STUDIES: [(u64, i64); 5] = [(1, 1_000_000), (2, 1_000_000), (3, 1_000), (4, 10), (5, 1)];
+/// The highest weight of a clause: no entry's sum passes the limit, whatever the literals are.
+const TOP_WEIGHT: i64 = 2_000;
 /// How many plans a certificate mixes.
 const PLANS: i64 = 5;
 /// Document 01's J: 2 trains of 2 choices, 1 pair.
 const SMALL_LOAD: &str = "010200010202000002000000000000000000010001000001000000000003000002";
+
+/// Clauses 1 ∨ 2 of weight 5, −1 of weight 2 and −2 ∨ 1 of weight 1, over 2 trains.
+const SMALL_CLAUSES: &str = "0902000100030102000005FF00000002FE01000001";
 
 /// How the reply to a search begins.
 const SEARCH_REPLY: &str = "86";
@@ -42,8 +49,8 @@ impl Input {
 pub fn short_inputs() -> Vec<Input> {
     let small = held_study(SMALL_LOAD.as_bytes());
     let full = full_study(SEED, 1_000_000);
-    let mut inputs = inputs_of("small", &small);
-    inputs.extend(inputs_of("full", &full));
+    let mut inputs = inputs_of("small", &small, SMALL_CLAUSES.into());
+    inputs.extend(inputs_of("full", &full, clause_line(&full)));
     inputs
 }
 
@@ -72,9 +79,10 @@ fn searches(name: &str, budget: i64) -> Vec<Input> {
     LONG_STUDIES.into_iter().map(input).collect()
 }
 
-fn inputs_of(size: &str, study: &Study) -> Vec<Input> {
+fn inputs_of(size: &str, study: &Study, clauses: Vec<u8>) -> Vec<Input> {
     let fresh = vec![0; BLOCK_LENGTH];
     let held = block_of(study);
+    let of_clauses = block_of(&held_study(&clauses));
     let load = line_of(&load_fields(study));
     let longest = line_of(&load_fields(&full_study(SEED, 1_000_000)));
     let rows = [
@@ -87,6 +95,7 @@ fn inputs_of(size: &str, study: &Study) -> Vec<Input> {
         ("search", &held, search_line(SMALL_BUDGET), SEARCH_REPLY),
         ("save", &held, b"07".to_vec(), "01"),
         ("round", &held, b"08".to_vec(), "88"),
+        ("clauses", &of_clauses, clauses, "89"),
         ("refused-character", &held, with_end(&longest, b"G"), "FF01"),
         ("refused-cost", &held, with_end(&longest, b"FFFFFE"), "FF07"),
         ("refused-kind", &held, b"10".to_vec(), "FF03"),
@@ -117,12 +126,24 @@ fn full_study(seed: u64, top: i64) -> Study {
     Study { scale, constant: 0, trains, pairs }
 }
 
-/// The study that a load line holds.
-fn held_study(load: &[u8]) -> Study {
+/// The study that a line of kind 01 or 09 loads.
+fn held_study(line: &[u8]) -> Study {
     let mut block = vec![0; BLOCK_LENGTH];
-    reference::answer(load, &mut block, &mut [0; reference::LEAST_BUFFER]);
+    reference::answer(line, &mut block, &mut [0; reference::LEAST_BUFFER]);
     let study = model::decode(&block).ok().flatten();
-    study.expect("the line is a load")
+    study.expect("the line loads")
+}
+
+/// As many clauses as there may be, of two literals each, for the pairs of the study by turns.
+fn clause_line(study: &Study) -> Vec<u8> {
+    let random = &mut Random::new(SEED);
+    let count = *CLAUSES.end() as usize;
+    let clause = |pair: &Pair| Clause {
+        literals: pair.trains.map(|train| (train as i64 + 1) * random.pick(&[1, -1])),
+        weight: random.between(0, TOP_WEIGHT),
+    };
+    let list = study.pairs.iter().cycle().take(count).map(clause).collect();
+    line_of(&clause_fields(&Clauses { trains: study.trains.len(), scale: study.scale, list }))
 }
 
 fn block_of(study: &Study) -> Vec<i64> {

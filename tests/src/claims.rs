@@ -1,8 +1,9 @@
-//! The claims of "Lists and the ledger", of saves, of rounds, of forbidden entries and of stopping at the bound, checked
-//! from the outside by every plan of small studies.
+//! The claims of "Lists and the ledger", of saves, of rounds, of forbidden entries, of stopping at the bound and of clauses,
+//! checked from the outside by every plan of small studies.
 
 use crate::generator::{Reach, Session};
 use crate::lines;
+use crate::literals::{Literals, Text};
 use crate::model::{Cost, Costs, Pair, Study, BLOCK_LENGTH, FORBIDDEN};
 use crate::random::Random;
 use crate::rewriting::Rewriting;
@@ -29,6 +30,7 @@ pub struct Tally {
     pub spent_without: usize,
     pub forbidden: Forbidden,
     pub stops: Stops,
+    pub clauses: Literals,
     pub saves: Saves,
 }
 
@@ -111,6 +113,8 @@ fn feed(ledger: &mut Option<Ledger>, line: &[u8], reply: &[u8]) {
     let mut fields = Reader(line);
     match (fields.number(1), ledger) {
         (1, ledger) => *ledger = Some(Ledger::load(fields)),
+        // "An accepted one sets the ledger likewise and counts as an accepted load."
+        (9, ledger) => *ledger = Some(Ledger::of_clauses(fields)),
         (2, Some(ledger)) => {
             let (train, choice) = (fields.number(1) as usize, fields.number(1) as usize);
             // "Forbidden entries stay so ..., additions included, in the ledger too."
@@ -145,6 +149,11 @@ impl Ledger {
         };
         let pairs = (0..m).map(pair).collect();
         Self { scale, costs: Study { scale: 1, constant: 0, trains, pairs } }
+    }
+
+    fn of_clauses(mut fields: Reader) -> Self {
+        let (n, scale, text) = Text::read(&mut fields);
+        Self { scale, costs: text.costs(n) }
     }
 
     fn plans(&self) -> Plans {
@@ -223,7 +232,7 @@ impl Ledger {
         demand(bound == least, "a round's bound isn't the least cost")
     }
 
-    /// A bound that a reply of kinds 01 to 04 and 08 shows "at that line".
+    /// A bound that a reply of kinds 01 to 04, 08 and 09 shows "at that line".
     fn check_bound(&self, reply: &[u8], plans: &Plans, tally: &mut Tally) -> Result<(), String> {
         tally.bounds += 1;
         let bound = Reader(&reply[14..]).number(6);
@@ -410,6 +419,10 @@ impl Step<'_> {
             Some(shown) => {
                 if shown == b"81" {
                     tally.saves.check_load(service, block, line)?;
+                }
+                if shown == b"89" {
+                    tally.clauses.check(line, reply, before, plans)?;
+                    ledger.check_saved(&tally.saves.check_clauses(service, block)?)?;
                 }
                 if shown == b"88" {
                     ledger.check_round(reply, before[3], plans, tally)?;

@@ -1,13 +1,14 @@
 //! Sessions of calls from a seed: every kind, every refusal, boundaries and damage.
 
 use crate::calls::{Call, Outcome, Setting};
+use crate::clause_lines;
 use crate::lines::{self, LONGEST_LINE, MOVES};
 use crate::model::{self, Cost, Costs, Pair, Study, BLOCK_LENGTH, FORBIDDEN, TOP};
 use crate::operations::{self, Certificate, Shift};
 use crate::random::Random;
 use crate::rewriting::Rewriting;
 use crate::search;
-use crate::studies::{clique, forbid, mispair, pairs, raise};
+use crate::studies::{clique, forbid, mispair, pairs, raise, scale};
 use crate::weights::{couple, mixture, unbalance, uniform};
 use crate::{LEAST_BUFFER, LONGEST_REPLY};
 use std::iter::repeat_with;
@@ -190,27 +191,9 @@ impl Session {
             return self.junk();
         }
         let fresh = study.is_none();
-        let load = self.random.chance(if fresh { 70 } else { 8 });
-        let mut substitute;
-        let study = match study {
-            Some(study) if !load => study,
-            _ => {
-                substitute = self.study();
-                if load && self.random.chance(10) {
-                    mispair(&mut self.random, &mut substitute);
-                }
-                &substitute
-            }
-        };
-        let mut fields = match self.random.below(27) {
-            _ if load => load_fields(study),
-            0..=3 => self.add(study),
-            4..=8 => self.shift(study),
-            9..=11 => vec![(1, 4)],
-            12..=15 => certificate_fields(&self.certificate(study)),
-            16..=18 => vec![(1, 7)],
-            19..=21 => vec![(1, 8)],
-            _ => vec![(1, 6), (4, self.budget(study))],
+        let mut fields = match self.random.chance(if fresh { 20 } else { 3 }) {
+            true => self.clauses(),
+            false => self.fields(study),
         };
         if self.random.chance(15) {
             self.spoil(&mut fields);
@@ -222,6 +205,43 @@ impl Session {
         line
     }
 
+    /// The fields of a load, or of a line of another kind, mostly for this study.
+    fn fields(&mut self, study: Option<&Study>) -> Fields {
+        let load = self.random.chance(if study.is_none() { 70 } else { 8 });
+        let mut substitute;
+        let study = match study {
+            Some(study) if !load => study,
+            _ => {
+                substitute = self.study();
+                if load && self.random.chance(10) {
+                    mispair(&mut self.random, &mut substitute);
+                }
+                &substitute
+            }
+        };
+        match self.random.below(27) {
+            _ if load => load_fields(study),
+            0..=3 => self.add(study),
+            4..=8 => self.shift(study),
+            9..=11 => vec![(1, 4)],
+            12..=15 => certificate_fields(&self.certificate(study)),
+            16..=18 => vec![(1, 7)],
+            19..=21 => vec![(1, 8)],
+            _ => vec![(1, 6), (4, self.budget(study))],
+        }
+    }
+
+    /// The fields of clauses, unless the session is of small studies often over as many trains as 49 pairs need, or more.
+    fn clauses(&mut self) -> Fields {
+        let random = &mut self.random;
+        let n = match random.below(5) {
+            0 if self.reach != Reach::SmallLines => 24,
+            1 | 2 if self.reach != Reach::SmallLines => 11 + random.below(14),
+            _ => 1 + random.below(self.most_trains),
+        };
+        clause_lines::any_fields(random, n)
+    }
+
     fn study(&mut self) -> Study {
         let random = &mut self.random;
         if random.chance(5) {
@@ -231,8 +251,7 @@ impl Session {
         let n = if full { 24 } else { 1 + random.below(self.most_trains) };
         let sizes: Vec<usize> =
             (0..n).map(|_| if full { 8 } else { 1 + random.below(self.most_choices) }).collect();
-        let any = random.between(1, 1_000);
-        let scale = random.pick(&[1, 1, 2, 3, 7, 1_000, any]);
+        let scale = scale(random);
         let top = random.pick(&[0, 1, 3, 10, 1_000, 1_000_000]);
         let zeros = random.pick(&[0, 0, 30, 60]);
         let all_top = random.chance(5);
@@ -249,7 +268,7 @@ impl Session {
         let keys = pairs(random, n, full);
         let pair = |[i, j]: [usize; 2]| Pair { trains: [i, j], costs: costs(random, sizes[i], sizes[j]) };
         let mut study = Study { scale, constant: 0, trains, pairs: keys.into_iter().map(pair).collect() };
-        (0..random.pick(&[0, 0, 0, 1, 1, 2])).for_each(|_| forbid(random, &mut study));
+        (0..random.pick(&[0, 0, 1, 1, 2])).for_each(|_| forbid(random, &mut study));
         study
     }
 
@@ -367,7 +386,7 @@ impl Session {
         let (width, number) = &mut fields[place];
         let limits: &[i64] = match *width {
             1 => &[1, 8, 24, 48, 255],
-            2 => &[1, 1_000, 0xFFFF],
+            2 => &[1, 500, 1_000, 0xFFFF],
             3 => &[1, 100_000, 1_000_000, lines::FORBIDDEN, lines::FORBIDDEN],
             // Budgets that are in range come from `budget`, which bounds the work.
             4 => &[0, 10_000_002, 0xFFFF_FFFF],
@@ -408,7 +427,7 @@ impl Session {
             _ => random
                 .pick(&[
                     "00", "10", "81", "FF", "1", "01", "02", "03", "0400", "05", "06", "0700", "070707",
-                    "0800", "080808",
+                    "0800", "080808", "09", "0901",
                 ])
                 .into(),
         }

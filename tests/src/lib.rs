@@ -3,8 +3,11 @@
 
 pub mod calls;
 pub mod claims;
+pub mod clause_lines;
+pub mod clauses;
 pub mod generator;
 pub mod lines;
+pub mod literals;
 pub mod model;
 pub mod operations;
 pub mod product;
@@ -49,14 +52,17 @@ pub fn answer(line: &[u8], block: &mut [i64], reply: &mut [u8]) -> usize {
     digits.len()
 }
 
-/// The reply's bytes. The block is written only where a line of kinds 01 to 04 or 08 is accepted.
+/// The reply's bytes. The block is written only where a line of kinds 01 to 04, 08 or 09 is accepted.
 fn respond(line: &[u8], block: &mut [i64]) -> Result<Vec<u8>, Refusal> {
-    // "Order: 17, 16, 2, 1, 3, 4. Then fields from left to right ... Then 10, 12 or 14."
+    // "Order: 17, 16, 2, 1, 3, 4. Then fields from left to right ... Then 10, 12 or 14." Change 7: "20 ..., after 5 and
+    // before 10."
     let state = model::decode(block)?;
     let (kind, fields) = lines::open(line)?;
     let present = || state.ok_or(Refusal::Fresh);
     match kind {
         Kind::Load => Ok(hold(0x81, &lines::load(fields)?, block)),
+        // "The reply is 89 as for a load, and the line sets the costs as a load does."
+        Kind::Clauses => Ok(hold(0x89, &lines::clauses(fields)?.study()?, block)),
         Kind::Add => rewrite(0x82, present()?, block, |study| {
             let add = lines::add(fields, study)?;
             operations::add(study, &add)
@@ -97,7 +103,7 @@ fn rewrite(
     Ok(hold(code, &study, block))
 }
 
-/// Writes the study to the block. "Kinds 01 to 04: 81 to 84, c0 in parts (6), bound in points (6)." So does 88.
+/// Writes the study to the block. "Kinds 01 to 04: 81 to 84, c0 in parts (6), bound in points (6)." So do 88 and 89.
 fn hold(code: u8, study: &Study, block: &mut [i64]) -> Vec<u8> {
     study.encode(block);
     let mut bytes = vec![code];

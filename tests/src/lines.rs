@@ -1,5 +1,6 @@
 //! Lines: digits, kinds and fields, "from left to right, each judged as soon as it is read".
 
+use crate::clauses::{Clause, Clauses};
 use crate::model::{Costs, Pair, Refusal, Study, COSTS, PAIRS, SCALES, SIZES, TRAINS};
 use crate::operations::{Add, Certificate, Shift};
 use std::ops::RangeInclusive;
@@ -11,6 +12,8 @@ pub const MOVES: RangeInclusive<i64> = -1_000_000_000_000..=1_000_000_000_000;
 /// W.
 const WHOLES: RangeInclusive<i64> = 1..=100_000;
 const BUDGETS: RangeInclusive<i64> = 1..=10_000_000;
+/// "Count (2 bytes, at most 500, else 6)."
+pub const CLAUSES: RangeInclusive<i64> = 0..=500;
 /// A forbidden entry, as a load says it.
 pub const FORBIDDEN: i64 = 0xFF_FFFF;
 
@@ -24,6 +27,7 @@ pub enum Kind {
     Search,
     Save,
     Round,
+    Clauses,
 }
 
 /// The bytes behind the kind, read from the left.
@@ -39,6 +43,12 @@ impl Fields {
         let bytes = self.bytes.get(self.next..end).ok_or(Refusal::Fields)?;
         self.next = end;
         Ok(bytes.iter().fold(0, |number, &byte| number << 8 | i64::from(byte)))
+    }
+
+    /// A number in two's complement.
+    fn signed(&mut self, width: usize) -> Result<i64, Refusal> {
+        let above = 64 - 8 * width;
+        Ok(self.number(width)? << above >> above)
     }
 
     fn numbers(&mut self, count: usize, width: usize) -> Result<Vec<i64>, Refusal> {
@@ -64,7 +74,7 @@ impl Fields {
     /// Lifts or moves: 6 bytes each, "two's complement, in parts".
     fn moves(&mut self, count: usize) -> Result<Vec<i64>, Refusal> {
         let mut one = || {
-            let number = self.number(6)? << 16 >> 16;
+            let number = self.signed(6)?;
             MOVES.contains(&number).then_some(number).ok_or(Refusal::Move)
         };
         (0..count).map(|_| one()).collect()
@@ -121,16 +131,23 @@ pub fn open(line: &[u8]) -> Result<(Kind, Fields), Refusal> {
         6 => Kind::Search,
         7 => Kind::Save,
         8 => Kind::Round,
+        9 => Kind::Clauses,
         _ => return Err(Refusal::NoSuchKind),
     };
     Ok((kind, Fields { bytes, next: 1 }))
 }
 
+/// "n (1 byte), s (2)": how a load and a study written as clauses begin.
+fn head(fields: &mut Fields) -> Result<(usize, i64), Refusal> {
+    let n = fields.judged(1, TRAINS, Refusal::Range)?;
+    let scale = fields.judged(2, SCALES, Refusal::Range)?;
+    Ok((n as usize, scale))
+}
+
 /// "n (1 byte), s (2), sizes (1 each), choice costs by train then choice (3 each), m (1), then each
 /// pair: i, j (1 each), costs (3 each), a outer, b inner." c0 becomes 0.
 pub fn load(mut fields: Fields) -> Result<Study, Refusal> {
-    let n = fields.judged(1, TRAINS, Refusal::Range)? as usize;
-    let scale = fields.judged(2, SCALES, Refusal::Range)?;
+    let (n, scale) = head(&mut fields)?;
     let mut sizes = Vec::with_capacity(n);
     for _ in 0..n {
         sizes.push(fields.judged(1, SIZES, Refusal::Range)? as usize);
@@ -153,6 +170,24 @@ pub fn load(mut fields: Fields) -> Result<Study, Refusal> {
     }
     fields.end()?;
     Ok(Study { scale, constant: 0, trains, pairs })
+}
+
+/// "n, s, count ..., then for each clause two signed one-byte literals and a weight (3)." 19 is "judged after both
+/// literals". "A weight of FFFFFF is 7", as is every other above the highest cost.
+pub fn clauses(mut fields: Fields) -> Result<Clauses, Refusal> {
+    let (n, scale) = head(&mut fields)?;
+    let count = fields.judged(2, CLAUSES, Refusal::Range)?;
+    let mut list = Vec::new();
+    for _ in 0..count {
+        let literals = [fields.signed(1)?, fields.signed(1)?];
+        let [first, second] = literals.map(|literal| literal.unsigned_abs() as usize);
+        if first == 0 || first == second || first.max(second) > n {
+            return Err(Refusal::Literal);
+        }
+        list.push(Clause { literals, weight: fields.judged(3, COSTS, Refusal::Cost)? });
+    }
+    fields.end()?;
+    Ok(Clauses { trains: n, scale, list })
 }
 
 /// The bytes of the line that loads the study's H, "in document 01's layout": the fields of `load`, in its order.

@@ -38,6 +38,10 @@ pub enum Refusal {
     Block = 16,
     /// "A weight above 0 on a forbidden entry, after 14."
     ForbiddenWeight = 18,
+    /// "Literal of an absent train, first literal 0 or one train twice."
+    Literal = 19,
+    /// "Over 48 pairs."
+    Pairs = 20,
 }
 
 /// The cost of a permitted entry: H in points, T in parts.

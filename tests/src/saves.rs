@@ -16,8 +16,9 @@ pub struct Saves {
     /// Of these, saves of blocks whose T isn't s × H or whose c0 isn't 0, and of blocks with a forbidden entry.
     pub rewritten: usize,
     pub forbidden: usize,
-    /// Loads that a save gave back.
+    /// Loads that a save gave back, and saves straight after lines of clauses.
     pub given_back: usize,
+    pub of_clauses: usize,
 }
 
 /// Places of n, s and m; of sizes, pairs and H of choices; of H of pairs.
@@ -72,8 +73,21 @@ impl Saves {
         Ok(())
     }
 
-    /// One session over studies of every size and blocks that no line makes: each load that is accepted,
-    /// and a save behind each call that leaves a study.
+    /// The save straight after an accepted line of clauses: loading it on a fresh block makes the very block that the
+    /// clauses made, since "the line sets the costs as a load does".
+    pub fn check_clauses(&mut self, service: Service, block: &[i64]) -> Result<Vec<u8>, String> {
+        self.of_clauses += 1;
+        let mut after = block.to_vec();
+        let saved = reply(service, b"07", &mut after, LONGEST_REPLY);
+        demand(after == block, "a save changed the block")?;
+        let mut loaded = vec![0; BLOCK_LENGTH];
+        reply(service, &saved, &mut loaded, LEAST_BUFFER);
+        demand(loaded == block, "the save after clauses loads another block")?;
+        Ok(saved)
+    }
+
+    /// One session over studies of every size and blocks that no line makes: each load and each line of clauses that is
+    /// accepted, and a save behind each call that leaves a study.
     pub fn check_session(&mut self, service: Service, seed: u64, calls: usize) -> Result<(), String> {
         let mut session = Session::new(seed, Reach::Blocks);
         let mut block = vec![0; BLOCK_LENGTH];
@@ -83,6 +97,9 @@ impl Saves {
             let mut check = || {
                 if outcome.reply().starts_with(b"81") {
                     self.check_load(service, &outcome.block, &call.line)?;
+                }
+                if outcome.reply().starts_with(b"89") {
+                    self.check_clauses(service, &outcome.block)?;
                 }
                 if !matches!(model::decode(&block), Ok(Some(_))) {
                     return Ok(());

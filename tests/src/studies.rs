@@ -4,7 +4,7 @@ use crate::model::{Costs, Pair, Study, PAIRS, TOP};
 use crate::random::Random;
 use std::iter::repeat_with;
 
-const MOST_PAIRS: usize = *PAIRS.end() as usize;
+pub const MOST_PAIRS: usize = *PAIRS.end() as usize;
 
 /// The pairs of n trains, ascending: any (if full, as many as there may be), or of a shape that matters to rounds.
 pub fn pairs(random: &mut Random, n: usize, full: bool) -> Vec<[usize; 2]> {
@@ -43,13 +43,25 @@ fn any_pairs(random: &mut Random, n: usize, full: bool) -> Vec<[usize; 2]> {
         // All pairs of some second trains.
         5 => (0..2).map(|_| random.below(n)).flat_map(|j| (0..j).map(move |i| [i, j])).collect(),
         shape => {
-            let mut keys: Vec<_> = (0..n).flat_map(|j| (0..j).map(move |i| [i, j])).collect();
-            random.shuffle(&mut keys);
+            let mut keys = shuffled_pairs(random, n);
             let all = keys.len().min(MOST_PAIRS);
             keys.truncate(if full || shape < 8 { all } else { random.below(all + 1) });
             keys
         }
     }
+}
+
+/// All pairs of n trains, in any order.
+pub fn shuffled_pairs(random: &mut Random, n: usize) -> Vec<[usize; 2]> {
+    let mut keys: Vec<_> = (0..n).flat_map(|j| (0..j).map(move |i| [i, j])).collect();
+    random.shuffle(&mut keys);
+    keys
+}
+
+/// How many parts a point has.
+pub fn scale(random: &mut Random) -> i64 {
+    let any = random.between(1, 1_000);
+    random.pick(&[1, 1, 2, 3, 7, 1_000, any])
 }
 
 /// Three trains of two choices and all their pairs, in which equal choices are forbidden: there is no plan.

@@ -6,6 +6,9 @@ use reference::generator::every_byte;
 use reference::lines::{digits, LONGEST_LINE};
 use reference::model::BLOCK_LENGTH;
 use reference::{LEAST_BUFFER, LONGEST_REPLY};
+use session::{last, replies};
+
+mod session;
 
 const J: &str = "010200010202000002000000000000000000010001000001000000000003000002";
 const CERTIFICATE: &str = "05000001000001000000000000000001000000000001000000000000";
@@ -35,19 +38,6 @@ const CLIQUE: &str = "\
 
 /// The reply to a load.
 const ZERO: &str = "81000000000000000000000000";
-
-/// The replies to the lines, one after another from a fresh block.
-fn replies(lines: &[&str]) -> Vec<String> {
-    let mut output = Vec::new();
-    reference::session(lines.join("\n").as_bytes(), &mut output).unwrap();
-    let output = String::from_utf8(output).unwrap();
-    output.lines().map(String::from).collect()
-}
-
-/// The reply to the last line.
-fn last(lines: &[&str]) -> String {
-    replies(lines).pop().unwrap()
-}
 
 /// A shift of J: lifts u_0, u_1, then the moves of train 0 and of train 1.
 fn shift(numbers: [i64; 6]) -> String {
@@ -165,7 +155,6 @@ fn saves() {
         assert_eq!(last_in(capacity, &[K, "07"]), reply);
     }
     assert_eq!(last_in(LEAST_BUFFER, &[K, "0700"]), "FF05");
-    assert_eq!(most(&[J, "09"]), "FF03");
     assert_eq!(most(&[J, "10"]), "FF03");
     // The buffer of a session holds every line.
     assert_eq!(replies(&[K, "07", "0700", J, "07"]), [ZERO, K, "FF05", ZERO, J]);

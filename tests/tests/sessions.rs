@@ -3,6 +3,7 @@
 use reference::claims::{check_session, Ceilings, Forbidden, Tally};
 use reference::generator::sessions;
 use reference::lines::{saved, MOVES};
+use reference::literals::Literals;
 use reference::model::{decode, Costs, Study, TOP};
 use reference::operations;
 use reference::saves::Saves;
@@ -15,7 +16,7 @@ use std::mem::replace;
 #[test]
 fn the_claims_hold_by_every_plan() {
     let mut tally = Tally::default();
-    for seed in 0..600 {
+    for seed in 0..800 {
         if let Err(claim) = check_session(reference::answer, seed, 60, &mut tally) {
             panic!("{claim}");
         }
@@ -27,15 +28,18 @@ fn the_claims_hold_by_every_plan() {
     let Stops { met, forbidden, fewer, with_tries_left, by_the_last, same } = tally.stops;
     assert!(met > 500 && forbidden > 50 && fewer > 200 && same > 500, "{tally:?}");
     assert!(with_tries_left > 20 && by_the_last > 100, "{tally:?}");
-    let Saves { loaded, rewritten, forbidden, given_back } = tally.saves;
+    let Saves { loaded, rewritten, forbidden, given_back, of_clauses } = tally.saves;
     assert!(loaded > 500 && rewritten > 300 && forbidden > 200 && given_back > 500, "{tally:?}");
+    let Literals { lines, differing, paired, added_up, weightless, on_fresh, over_forbidden } = tally.clauses;
+    assert!(lines > 300 && of_clauses == lines && differing > 180 && paired > 170, "{tally:?}");
+    assert!(added_up > 160 && weightless > 140 && on_fresh > 50 && over_forbidden > 90, "{tally:?}");
     for (ceilings, least) in tally.ceilings.iter().zip([500, 100]) {
         let Ceilings { certificates, reached, better_rivals, tight_rivals, .. } = ceilings;
         assert!(*certificates > 2 * least && *reached > least, "{tally:?}");
         assert!(*better_rivals > least && *tight_rivals > least, "{tally:?}");
     }
     let Ceilings { rivals_by_loss, without_plan, .. } = tally.ceilings[1];
-    assert!(rivals_by_loss > 200 && without_plan > 50, "{tally:?}");
+    assert!(rivals_by_loss > 200 && without_plan > 25, "{tally:?}");
     let Forbidden { calls, without_plan, adds, rounds, limits, ended, ended_without, spent_without_any } =
         tally.forbidden;
     assert!(calls > 5_000 && without_plan > 2_000 && adds > 100 && rounds > 500, "{tally:?}");
@@ -46,13 +50,13 @@ fn the_claims_hold_by_every_plan() {
 #[test]
 fn saves_hold_on_every_block() {
     let mut saves = Saves::default();
-    for seed in 0..60 {
+    for seed in 0..80 {
         if let Err(claim) = saves.check_session(reference::answer, seed, 50) {
             panic!("{claim}");
         }
     }
     assert!(saves.loaded > 2_000 && saves.rewritten > 1_000 && saves.given_back > 100, "{saves:?}");
-    assert!(saves.forbidden > 1_000, "{saves:?}");
+    assert!(saves.forbidden > 1_000 && saves.of_clauses > 15, "{saves:?}");
 }
 
 /// Which buffers, none below the least, saves of loaded blocks come with.
@@ -270,6 +274,7 @@ fn the_generator_reaches_every_answer() {
         ("06", &[1, 4, 5, 15, 16]),
         ("07", &[1, 4, 5, 16]),
         ("08", &[1, 4, 5, 12, 16]),
+        ("09", &[1, 5, 6, 7, 10, 16, 19, 20]),
         ("00", &[2, 3]),
         ("10", &[3]),
     ] {

@@ -16,4 +16,5 @@ pub mod Saves
 pub mod GivenBack
 pub mod Rounds
 pub mod Forbidden
+pub mod Clauses
 pub mod PlanCosts

@@ -18,6 +18,8 @@ use Rattle.tables.specs.Plans.{heldCosts}
 use Rattle.operations.specs.Add.{added}
 use Rattle.operations.specs.Load.{loadedBlock}
 use Rattle.operations.specs.Saved.{savedCost, savedNumbers}
+use Rattle.clauses.specs.Clauses.{literalsRight, otherOf, cellOf, cellFrom, chargedTo, unnamedTo, named, codesBelow, pairCodes, clauseNumbers, costsWithin, sumsWithin}
+use Rattle.clauses.specs.Outcomes.{clausesOutcome}
 use Rattle.rewriting.specs.Moves.{moveRun}
 use Rattle.rewriting.specs.Leasts.{matePlace, openPlace, foundOf, runLeast, runTightened}
 use Rattle.rewriting.specs.Judged.{kept}
@@ -35,8 +37,10 @@ use Rattle.lines.specs.Layout.{pairAt}
 use Rattle.lines.specs.Text.{pairDigits, pairsDigits, loadDigits}
 use Rattle.lines.specs.Verdicts.{fieldVerdict, runsVerdict, lastVerdict}
 use Rattle.kinds.specs.Load.{pairOrdered, pairVerdict, headVerdict, restVerdict, loadVerdict}
+use Rattle.kinds.specs.Clauses.{clauseVerdict, clauseRunVerdict, clausesVerdict}
 use Rattle.kinds.specs.Lines.{addVerdict, shiftVerdict, certifyVerdict, searchVerdict}
 use Rattle.decoding.specs.Numbers.{entriesOf, numbersOf}
+use Rattle.decoding.specs.Clauses.{clausesOf}
 use Rattle.reader.specs.Reading.{studyLine, kindLine, lineOf}
 use Rattle.search.specs.Walk.{barred, partialTotal, oneTry, triedFrom, openedTrain, walked, searched}
 use Rattle.search.specs.Walk as walk
@@ -59,11 +63,12 @@ unfolding text zeros marks closed place places rows grids laid held call row dec
     roundedUp
     sum all pass figure within choiceUsed entryUsed headLimits shapeLimits costLimits limitsAt placesRight before follows pairRight pairsRight isOpen mate mates mated isZero isFresh holdsStudy wellFormed isCost permits priced heldCosts
     iter down added loadedBlock joined savedCost savedNumbers
+    literalsRight otherOf cellOf cellFrom chargedTo unnamedTo named codesBelow pairCodes clauseNumbers costsWithin sumsWithin clausesOutcome
     moveRun kept pairShifted shifted matePlace openPlace foundOf runLeast runTightened pairTightened tightened costTaken pairRound pairTurn trainRound directed
     trainBalanced rowBalanced columnBalanced pairBalanced balanced choiceSpared entrySpared spared overChoices overPairs weighted
     digit digitOf byteAt field signed fieldDigits allDigits framed listFrom runDigits
     newKind pairAt pairDigits pairsDigits loadDigits entriesOf numbersOf firstOf fieldVerdict lastVerdict runsVerdict pairOrdered pairVerdict headVerdict restVerdict loadVerdict
-    addVerdict shiftVerdict certifyVerdict searchVerdict studyLine kindLine lineOf
+    clauseVerdict clauseRunVerdict clausesVerdict clausesOf addVerdict shiftVerdict certifyVerdict searchVerdict studyLine kindLine lineOf
     barred walk.added partialTotal oneTry triedFrom openedTrain walked searched searchAnswer
     fieldsDigits refusalReply boundReply certifyReply searchReply
     requested lineAnswer

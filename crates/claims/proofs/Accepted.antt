@@ -17,7 +17,7 @@ use Rattle.certificates.specs.declared.certify.Ceiling.{Ceiling}
 use Rattle.frames.specs.Digits.{digit, byteAt}
 use Rattle.frames.specs.Fields.{field}
 use Rattle.lines.specs.declared.kind.Kind.{Kind}
-use Rattle.lines.specs.declared.kind.Kind.the-variants.{Load, Add, Shift, Tighten, Certify, Search, Save, Round}
+use Rattle.lines.specs.declared.kind.Kind.the-variants.{Load, Add, Shift, Tighten, Certify, Search, Save, Round, Clauses}
 use Rattle.lines.proofs.KindNumbers.{number-low}
 use Rattle.lines.specs.Text.{loadDigits}
 use Rattle.decoding.proofs.Written.{load-kind}
@@ -53,6 +53,7 @@ reply-low Certify = omega arith
 reply-low Search = omega arith
 reply-low Save = omega arith
 reply-low Round = omega arith
+reply-low Clauses = omega arith
 
 -- a reply under it
 pub kind-accepted : (k : Kind) (reply : List ℕ) → kindShown reply ≡ shownKind k → accepted reply ≡ true

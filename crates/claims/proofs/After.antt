@@ -1,4 +1,4 @@
--- After any list of calls from the fresh block the block is fresh still, or it and the ledger keep together: before the first accepted load only a load is accepted, and each call
+-- After any list of calls from the fresh block the block is fresh still, or it and the ledger keep together: before the first accepted load only a load, of kind 01 or 09, is accepted, and each call
 -- after it keeps them together.
 use mathlib.Core.Path.{_≡_, refl, sym, subst}
 use mathlib.Core.Bool.{Bool, true, false, cond, _&&_}
@@ -9,16 +9,20 @@ use lib.IntN.{ℤ}
 use lib.ListN.{length}
 use Rattle.theory.specs.Range.{pass}
 use Rattle.theory.proofs.Range.{not-both, both-true}
+use Rattle.refusals.specs.declared.Verdict.{Verdict}
+use Rattle.refusals.specs.declared.Verdict.the-variants.{Fine, Declined}
 use Rattle.tables.specs.WellFormed.{isZero, wellFormed, freshBlock, isFresh}
 use Rattle.tables.proofs.Study.{study-well-formed}
+use Rattle.lines.specs.declared.kind.Kind.the-variants as kind
 use Rattle.lines.specs.declared.kind.NewKind.the-variants.{Known}
 use Rattle.lines.specs.declared.request.Request.{Request}
-use Rattle.lines.specs.declared.request.Request.the-variants.{Load, Add, Shift, Tighten, Certify, Search, Save, Round}
+use Rattle.lines.specs.declared.request.Request.the-variants.{Load, Add, Shift, Tighten, Certify, Search, Save, Round, Clauses}
 use Rattle.lines.specs.Kinds.{newKind, requestKind}
 use Rattle.lines.specs.Layout.{kindOf}
+use Rattle.kinds.specs.Clauses.{clausesVerdict, clausesRequest}
 use Rattle.reader.proofs.LineAccepted.{Makes, line-makes}
 use Rattle.reader.proofs.LineKind.{line-known}
-use Rattle.replies.specs.Replies.{longestFixed}
+use Rattle.replies.specs.Replies.{longestFixed, refusalReply}
 use Rattle.requests.specs.Answer.{Answer, requested, lineAnswer}
 use Rattle.requests.proofs.LineCases.{line-cases}
 use Rattle.service.specs.Answer.{answer}
@@ -28,7 +32,7 @@ use Rattle.service.proofs.Lists.{nextAnswer, exchanges-more}
 use Rattle.claims.specs.Ledger.{Ledger, accepted, byKind, loads, fed, ledgerOf, emptyLedger, hasLoad}
 use Rattle.claims.specs.Claims.{AtCall, EachCall}
 use Rattle.claims.proofs.Keeps.{Keeps}
-use Rattle.claims.proofs.Steps.{fed-refused, Good, line-allowed, declined-call, empty-call, good-load, good-line, good-call}
+use Rattle.claims.proofs.Steps.{fed-refused, Good, line-allowed, declined-call, empty-call, good-load, clausesAnswer, outcomeOf, good-clauses, clauses-allowed, good-line, good-call}
 use Rattle.claims.proofs.Accepted.{empty-refused, refusal-refused}
 
 fresh-is : isFresh freshBlock ≡ true
@@ -64,7 +68,16 @@ module _ (g : Ledger) (l : List ℕ) where
   called-quiet : (reply : List ℕ) → accepted reply ≡ false → AtCall g freshBlock (exchange l reply) → Called g freshBlock l (record { block = freshBlock; reply = reply })
   called-quiet reply e c = record { state = inl refl; kept = λ y. absurd (not-both (both-true (accepted reply) (byKind loads false l) y .0) e); call = rw (fed-refused g l reply e) c }
 
-  -- on a fresh block only a load is asked
+  -- on a fresh block clauses load, or are declined
+  new-clauses : newKind (kindOf l) ≡ Known kind.Clauses → clausesVerdict l ≡ Fine → Called g freshBlock l (requested (clausesRequest l) l freshBlock)
+  unfolding requested
+  new-clauses e v = go (outcomeOf l) refl
+    where
+      go : (o : Verdict) → outcomeOf l ≡ o → Called g freshBlock l (clausesAnswer l freshBlock o)
+      go Fine f = called-good (good-clauses g l freshBlock e v f)
+      go (Declined r) f = called-quiet (refusalReply r) (refusal-refused r) (declined-call g freshBlock l r (clauses-allowed g l r e f))
+
+  -- on a fresh block only what loads is asked
   new-request : (q : Request) → Makes l freshBlock q → newKind (kindOf l) ≡ Known (requestKind q) → Called g freshBlock l (requested q l freshBlock)
   new-request (Load q) m e = called-good (subst (λ (s : Request). Good g freshBlock l (requested s l freshBlock)) (sym (m .0)) (good-load g l freshBlock e (m .1)))
   new-request (Add q) m e = absurd (not-both fresh-is (m .2))
@@ -74,6 +87,7 @@ module _ (g : Ledger) (l : List ℕ) where
   new-request (Search q) m e = absurd (not-both fresh-is (m .2))
   new-request Save m e = absurd (not-both fresh-is (m .2))
   new-request Round m e = absurd (not-both fresh-is (m .2))
+  new-request (Clauses q) m e = subst (λ (s : Request). Called g freshBlock l (requested s l freshBlock)) (sym (m .0)) (new-clauses e (m .1))
 
   line-new : (room : ℕ) → longestFixed ≤ room → Called g freshBlock l (lineAnswer l freshBlock room)
   line-new room h =

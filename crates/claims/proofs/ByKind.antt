@@ -6,7 +6,7 @@ use Prim.Native.Nat.{ℕ, _-_}
 use lib.Dec.{ltb}
 use lib.IntN.{ℤ}
 use Rattle.lines.specs.declared.kind.Kind.{Kind}
-use Rattle.lines.specs.declared.kind.Kind.the-variants.{Load, Add, Shift, Tighten, Certify, Search, Save, Round}
+use Rattle.lines.specs.declared.kind.Kind.the-variants.{Load, Add, Shift, Tighten, Certify, Search, Save, Round, Clauses}
 use Rattle.lines.specs.declared.kind.NewKind.{NewKind}
 use Rattle.lines.specs.declared.kind.NewKind.the-variants.{Known}
 use Rattle.lines.specs.Kinds.{newKind}
@@ -35,6 +35,7 @@ shown-back Certify = refl
 shown-back Search = refl
 shown-back Save = refl
 shown-back Round = refl
+shown-back Clauses = refl
 
 -- so no two kinds are answered under one byte
 same-reply : (j k : Kind) → shownKind j ≡ shownKind k → j ≡ k

@@ -16,6 +16,7 @@ use Rattle.tables.specs.WellFormed.{wellFormed}
 use Rattle.operations.specs.Add.{added, addOutcome}
 use Rattle.operations.specs.Load.{loadedBlock}
 use Rattle.operations.specs.Saved.{savedNumbers}
+use Rattle.clauses.specs.Outcomes.{clausesOutcome}
 use Rattle.rewriting.specs.Judged.{kept}
 use Rattle.shift.specs.Shift.{shifted, shiftOutcome}
 use Rattle.tighten.specs.Tighten.{tightened, tightenOutcome}
@@ -27,9 +28,10 @@ use Rattle.frames.specs.Runs.{runOf, signedRunOf}
 use Rattle.lines.specs.declared.kind.Kind.{Kind}
 use Rattle.lines.specs.declared.kind.Kind.the-variants as kind
 use Rattle.lines.specs.declared.request.Request.{Request}
-use Rattle.lines.specs.declared.request.Request.the-variants.{Load, Add, Shift, Tighten, Certify, Search, Save, Round}
+use Rattle.lines.specs.declared.request.Request.the-variants.{Load, Add, Shift, Tighten, Certify, Search, Save, Round, Clauses}
 use Rattle.lines.specs.Layout.{moveWidth, weightWidth}
 use Rattle.decoding.specs.Numbers.{numbersOf}
+use Rattle.decoding.specs.Clauses.{clausesOf, clauseNumbersOf}
 use Rattle.search.specs.Answer.{searchAnswer}
 use Rattle.replies.specs.Replies.{refusalReply, longestFixed}
 use Rattle.requests.specs.Answer.{Answer, answered, declined, operated, certified, requested, lineAnswer}
@@ -81,6 +83,7 @@ module _ (l : List ℕ) (b : List ℤ) where
   either-requested (Search q) = inl (search-accepted (trains b) (searchAnswer b (q .budget)))
   either-requested Save = inl (save-accepted (savedNumbers b))
   either-requested Round = either-operated kind.Round (directOutcome b) b (kept b (directed b))
+  either-requested (Clauses q) = either-operated kind.Clauses (clausesOutcome (q .trains) (q .scale .0) (clausesOf l)) b (loadedBlock (clauseNumbersOf l))
 
   either-line : (room : ℕ) → longestFixed ≤ room → wellFormed b ≡ true → Either b (lineAnswer l b room)
   either-line room h right = line-cases l b room h right (λ a. Either b a) (λ r e. either-declined b r) (λ q a f. either-requested q) (λ q a f. either-empty b)

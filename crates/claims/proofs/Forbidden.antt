@@ -32,7 +32,7 @@ use Rattle.frames.specs.Runs.{runOf, signedRunOf}
 use Rattle.lines.specs.declared.kind.Kind.{Kind}
 use Rattle.lines.specs.declared.kind.Kind.the-variants as kind
 use Rattle.lines.specs.declared.request.Request.{Request}
-use Rattle.lines.specs.declared.request.Request.the-variants.{Load, Add, Shift, Tighten, Certify, Search, Save, Round}
+use Rattle.lines.specs.declared.request.Request.the-variants.{Load, Add, Shift, Tighten, Certify, Search, Save, Round, Clauses}
 use Rattle.lines.specs.Layout.{moveWidth, weightWidth}
 use Rattle.reader.proofs.LineKind.{line-known}
 use Rattle.replies.specs.Replies.{refusalReply}
@@ -87,6 +87,7 @@ module _ (l : List ℕ) (b : List ℤ) (other : byKind loads false l ≡ false) 
   requested-alike (Certify q) a = certified-alike (q .full) (certificate b (weightsOf b (q .full) (runOf l (q .weights .at) weightWidth (q .weights .count)))) b
   requested-alike (Search q) a = λ p m h. refl
   requested-alike Save a = λ p m h. refl
+  requested-alike (Clauses q) a = absurd (not-both (by-kind loads false l (line-known l b (Clauses q) (a .asked))) other)
   requested-alike Round a = let s = study-ready a refl in operated-alike b (kept b (directed b)) kind.Round (judged b (directed b)) (judged-alike s (direct-rewrites s))
 
 pub forbidden-stays : ForbiddenStays

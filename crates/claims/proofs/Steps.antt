@@ -2,7 +2,7 @@
 use mathlib.Core.Path.{_≡_, refl, sym, ap, subst, _∙_}
 use mathlib.Core.Bool.{Bool, true, false}
 use mathlib.Core.List.{List, []}
-use mathlib.Core.Logic.{dite}
+use mathlib.Core.Logic.{_⊎_, inl, inr, dite}
 use Prim.Native.Nat.{ℕ, _+_, _*_, _<_, _≤_, _^_}
 use native.Mathlib.Decide.{ℕ-discrete, decLt}
 use native.Mathlib.Omega.{arith}
@@ -10,7 +10,7 @@ use lib.IntN.{ℤ}
 use lib.ListN.{length}
 use Rattle.theory.proofs.Range.{not-both}
 use Rattle.refusals.specs.declared.Refusal.{Refusal}
-use Rattle.refusals.specs.declared.Refusal.the-variants.{CostAbove, PartsOutside, Sums, ForbiddenWeight}
+use Rattle.refusals.specs.declared.Refusal.the-variants.{CostAbove, PartsOutside, Sums, ForbiddenWeight, PairsAbove}
 use Rattle.refusals.specs.declared.Verdict.{Verdict}
 use Rattle.refusals.specs.declared.Verdict.the-variants.{Fine, Declined}
 use Rattle.refusals.specs.Refusals.{refusalNumber}
@@ -27,6 +27,8 @@ use Rattle.bounds.proofs.Plans.{bound-room}
 use Rattle.operations.specs.Add.{addOpen, added, addOutcome}
 use Rattle.operations.specs.Load.{loadedBlock}
 use Rattle.operations.proofs.Added.{added-closed, add-closed, cost-above, parts-above, both-within, add-study, add-within, add-same-shape, add-choice, add-choice-kept, add-entry-kept}
+use Rattle.clauses.specs.Outcomes.{clausesOutcome}
+use Rattle.clauses.proofs.Block.{clauses-declined, clauses-in-range, clauses-total}
 use Rattle.rewriting.specs.Judged.{kept, judged, judgedBlock}
 use Rattle.rewriting.proofs.Rewritten.{rewrites-holds}
 use Rattle.shift.specs.Shift.{shifted}
@@ -44,15 +46,18 @@ use Rattle.lines.specs.declared.kind.Kind.{Kind}
 use Rattle.lines.specs.declared.kind.Kind.the-variants as kind
 use Rattle.lines.specs.declared.kind.NewKind.the-variants.{Known}
 use Rattle.lines.specs.declared.request.Request.{Request}
-use Rattle.lines.specs.declared.request.Request.the-variants.{Load, Add, Shift, Tighten, Certify, Search, Save, Round}
+use Rattle.lines.specs.declared.request.Request.the-variants.{Load, Add, Shift, Tighten, Certify, Search, Save, Round, Clauses}
 use Rattle.lines.specs.declared.request.Line.the-variants.{Refused}
 use Rattle.lines.specs.Kinds.{newKind, requestKind}
-use Rattle.lines.specs.Layout.{kindOf, moveWidth, weightWidth, addTrain, addChoice, addPoints, certifyFullWeight, searchBudget, weightField, liftField, moveField}
+use Rattle.lines.specs.Layout.{kindOf, moveWidth, weightWidth, addTrain, addChoice, addPoints, certifyFullWeight, searchBudget, weightField, liftField, moveField, loadTrains, loadScale}
 use Rattle.kinds.specs.Load.{loadVerdict, loadRequest}
+use Rattle.kinds.specs.Clauses.{clausesVerdict, clausesRequest}
 use Rattle.kinds.specs.Lines.{addRequest, shiftRequest, certifyRequest, searchRequest}
 use Rattle.kinds.proofs.Accepted.{add-fine, certify-fine}
 use Rattle.decoding.specs.Numbers.{numbersOf}
+use Rattle.decoding.specs.Clauses.{clausesOf, clauseNumbersOf}
 use Rattle.decoding.proofs.LoadRange.{load-in-range}
+use Rattle.decoding.proofs.ClausesRange.{clauses-in-limits}
 use Rattle.reader.specs.Reading.{lineOf}
 use Rattle.reader.proofs.LineAccepted.{Makes, line-makes, add-there}
 use Rattle.reader.proofs.LineKind.{line-known}
@@ -150,6 +155,29 @@ good-bound g old l k b known own claim keeps =
 pub good-load : (g : Ledger) (l : List ℕ) (b : List ℤ) → newKind (kindOf l) ≡ Known kind.Load → loadVerdict l ≡ Fine → Good g b l (requested (loadRequest l) l b)
 unfolding requested
 good-load g l b e v = good-bound g b l kind.Load (loadedBlock (numbersOf l)) e refl (λ c. c) (load-keeps (numbersOf l) (load-in-range l v))
+
+-- ---- a study written as clauses, on any block
+
+-- the answer to it, by its outcome
+abbrev pub clausesAnswer : List ℕ → List ℤ → Verdict → Answer
+clausesAnswer l b v = operated kind.Clauses v b (loadedBlock (clauseNumbersOf l))
+
+abbrev pub outcomeOf : List ℕ → Verdict
+outcomeOf l = clausesOutcome (loadTrains l) (loadScale l) (clausesOf l)
+
+pub good-clauses : (g : Ledger) (l : List ℕ) (b : List ℤ) → newKind (kindOf l) ≡ Known kind.Clauses → clausesVerdict l ≡ Fine → outcomeOf l ≡ Fine → Good g b l (clausesAnswer l b Fine)
+good-clauses g l b e v fine =
+    let r = clauses-in-limits l v in
+    good-bound g b l kind.Clauses (loadedBlock (clauseNumbersOf l)) e refl (λ c. record { bound-shown = c; weights = clauses-total r fine }) (load-keeps (clauseNumbersOf l) (clauses-in-range r fine))
+
+-- it is declined with 20 or 10 only
+pub clauses-allowed : (g : Ledger) (l : List ℕ) (r : Refusal) → newKind (kindOf l) ≡ Known kind.Clauses → outcomeOf l ≡ Declined r → Allowed g l r
+clauses-allowed g l r e f =
+    record { not-outside = λ u. absurd (not-both u (by-kind neverOutside false l e)); not-malformed = apart (clauses-declined (loadTrains l) (loadScale l) (clausesOf l) r f) }
+  where
+    apart : (r ≡ PairsAbove) ⊎ (r ≡ CostAbove) → refusalNumber r ≡ malformed → ⊥
+    apart (inl q) h = let x : _≡_ {A = ℕ} 20 16 = sym (ap refusalNumber q) ∙ h in omega arith
+    apart (inr q) h = let x : _≡_ {A = ℕ} 10 16 = sym (ap refusalNumber q) ∙ h in omega arith
 
 -- ---- the other kinds
 
@@ -296,6 +324,14 @@ module _ {g : Ledger} {b : List ℤ} (k : Keeps g b) (l : List ℕ) where
   unfolding requested
   good-save e = good-kind g b l kind.Save (saved b) e (save-kind (k .study)) k (save-claim k l)
 
+  good-clauses-line : newKind (kindOf l) ≡ Known kind.Clauses → clausesVerdict l ≡ Fine → Good g b l (requested (clausesRequest l) l b)
+  unfolding requested
+  good-clauses-line e v = go (outcomeOf l) refl
+    where
+      go : (o : Verdict) → outcomeOf l ≡ o → Good g b l (clausesAnswer l b o)
+      go Fine f = good-clauses g l b e v f
+      go (Declined r) f = good-declined k l r (clauses-allowed g l r e f)
+
   -- ---- every request
 
   as-asked : (q r : Request) → q ≡ r → Good g b l (requested r l b) → Good g b l (requested q l b)
@@ -312,6 +348,7 @@ module _ {g : Ledger} {b : List ℤ} (k : Keeps g b) (l : List ℕ) where
   good-request (Search q) m e = as-asked (Search q) (searchRequest l) (m .0) (good-search e)
   good-request Save m e = good-save e
   good-request Round m e = good-round e
+  good-request (Clauses q) m e = as-asked (Clauses q) (clausesRequest l) (m .0) (good-clauses-line e (m .1))
 
   -- 17, at once or for a reply that does not fit
   good-empty : Good g b l (answered b [])

@@ -20,13 +20,14 @@ use Rattle.tables.specs.WellFormed.{isOpen, freshBlock}
 use Rattle.tables.specs.Numbers.{isCost, permits, paid}
 use Rattle.tables.specs.Plans.{Open, Branches, LeastOf, choiceTotal, pairTotal, total, heldTotal}
 use Rattle.bounds.specs.Bounds.{boundOf}
+use Rattle.clauses.specs.Clauses.{meets, failed, failedWeight}
 use Rattle.certificates.specs.Rival.{asFraction, plus, times, sumOf, Same, AtMost, Rival, rivalTotal, IsRival, ConstantAtMost}
 use Rattle.weights.specs.Rival.{Amounts, givenOf, Leaves, LiftsAtMost}
 use Rattle.frames.specs.Digits.{digit, byteAt}
-use Rattle.frames.specs.Fields.{field}
+use Rattle.frames.specs.Fields.{field, signed}
 use Rattle.frames.specs.Frames.{allDigits, framed}
 use Rattle.frames.specs.Text.{codes}
-use Rattle.lines.specs.declared.kind.Kind.the-variants.{Load, Add, Shift, Tighten, Certify, Search, Save, Round}
+use Rattle.lines.specs.declared.kind.Kind.the-variants.{Load, Add, Shift, Tighten, Certify, Search, Save, Round, Clauses}
 use Rattle.lines.specs.declared.kind.NewKind.the-variants.{Known, NoSuch}
 use Rattle.lines.specs.declared.request.Line.the-variants.{Asked, Refused}
 use Rattle.lines.specs.Kinds.{newKind}
@@ -34,6 +35,7 @@ use Rattle.lines.specs.Layout.{pairAt}
 use Rattle.lines.specs.Verdicts.{fieldVerdict}
 use Rattle.kinds.specs.Load.{pairOrdered, pairVerdict, headVerdict, restVerdict, loadVerdict}
 use Rattle.decoding.specs.Numbers.{entriesOf, numbersOf}
+use Rattle.decoding.specs.Clauses.{clausesOf}
 use Rattle.reader.specs.Reading.{studyLine, kindLine, lineOf}
 use Rattle.replies.specs.Shown.{boundShown}
 use Rattle.requests.specs.Answer.{lineAnswer}
@@ -244,6 +246,10 @@ clique-wider claim = let h : 2 ≤ 0 = claim dear (λ x p. absurd (clique-no-pla
 unfoldable dLoad : String
 dLoad = "010200010202000002FFFFFF000000000000010001000001000000000003000002"
 
+-- one clause: train 0 takes its choice 0 or train 1 does, else 5 points
+unfoldable oneClause : String
+oneClause = "0902000100010102000005"
+
 -- ---- wrong replies to lines on J, whatever block a call had
 
 module _ {b : List ℤ} where
@@ -292,6 +298,15 @@ module _ {b : List ℤ} where
   high-round : AtLine j b (told "08" "88000000000000000000000003") → ⊥
   unfolding told
   high-round a = too-high (line-claim a Round refl .bound) refl
+
+  high-clauses : AtLine j b (told "09" "89000000000000000000000003") → ⊥
+  unfolding told
+  high-clauses a = too-high (line-claim a Clauses refl .bound-shown) refl
+
+  -- plan 01 fails no clause of this line, and costs 2
+  other-weights : AtLine j b (told oneClause "89000000000000000000000000") → ⊥
+  unfolding told load j plan signed oneClause clausesOf meets failed failedWeight
+  other-weights a = let h : _≡_ {A = ℕ} 2 0 = line-claim a Clauses refl .weights (plan 0 1) plan-01 in omega arith
 
   -- W of 0
   no-full-weight : AtLine j b (told "05" "85010000000000000002000000") → ⊥

@@ -14,13 +14,15 @@ use Rattle.bounds.specs.Bounds.{boundOf}
 use Rattle.certificates.specs.Rival.{Rival, IsRival, ConstantAtMost}
 use Rattle.weights.specs.Rival.{Amounts, Leaves, LiftsAtMost}
 use Rattle.lines.specs.declared.kind.Kind.{Kind}
-use Rattle.lines.specs.declared.kind.Kind.the-variants.{Load, Add, Shift, Tighten, Certify, Search, Save, Round}
+use Rattle.lines.specs.declared.kind.Kind.the-variants.{Load, Add, Shift, Tighten, Certify, Search, Save, Round, Clauses}
 use Rattle.lines.specs.declared.kind.NewKind.the-variants.{Known}
 use Rattle.lines.specs.declared.request.Line.the-variants.{Asked}
 use Rattle.lines.specs.Kinds.{kindNumber, newKind}
 use Rattle.lines.specs.Layout.{kindOf}
+use Rattle.clauses.specs.Clauses.{failedWeight}
 use Rattle.kinds.specs.Load.{loadRequest}
 use Rattle.decoding.specs.Numbers.{numbersOf}
+use Rattle.decoding.specs.Clauses.{clausesOf}
 use Rattle.reader.specs.Reading.{lineOf}
 use Rattle.replies.specs.Replies.{choiceWidth, refusalByte, replyKind, flag}
 use Rattle.replies.specs.Shown.{kindShown, numberShown, constantShown, boundShown, flagShown, weightedShown, fullWeightShown, saysEnded, saysEndedWithout, costShown, planShown, showsPlan}
@@ -112,6 +114,13 @@ pub record RoundClaim (g : Ledger) (e : Exchange) : Type 0 where
   -- `settled-round`). Change 5: 'its least-total equality is kept for studies without forbidden entries'
   pub settled : Open (g .shape) → Branches (g .shape) → (constantShown (e .reply) ≡ g .scale * boundShown (e .reply)) × LeastOf (g .shape) (costOf g) (boundShown (e .reply))
 
+-- document 02, change 7: 'The reply is 89 as for a load'
+pub record ClausesClaim (g : Ledger) (e : Exchange) : Type 0 where
+  -- its bound is one 'that a reply shows beside c0' (`high-clauses`)
+  pub bound-shown : BoundClaim g e
+  -- 'Each plan's total in H must be the weights of the clauses it fails', by the literals of the line (`other-weights`)
+  pub weights : (x : ℕ → ℕ) → PlanOf g x → costOf g x ≡ failedWeight (clausesOf (e .line)) x
+
 -- each kind's own (`high-bound`, `high-added`, `high-shifted`, `high-tightened`)
 abbrev pub Claim : Kind → Ledger → List ℤ → Exchange → Type 0
 Claim Load g b e = BoundClaim g e
@@ -122,8 +131,9 @@ Claim Certify g b e = CeilingClaim g b e
 Claim Search g b e = SearchClaim g e
 Claim Save g b e = SaveClaim g e
 Claim Round g b e = RoundClaim g e
+Claim Clauses g b e = ClausesClaim g e
 
--- 'Kinds 01 to 04: 81 to 84', 'Certify: 85', 'Search: 86'; of a round 88; a save's reply, a load line, begins with 01
+-- 'Kinds 01 to 04: 81 to 84', 'Certify: 85', 'Search: 86'; of a round 88, of clauses 89; a save's reply, a load line, begins with 01
 abbrev pub shownKind : Kind → ℕ
 shownKind Load = replyKind Load
 shownKind Add = replyKind Add
@@ -133,6 +143,7 @@ shownKind Certify = replyKind Certify
 shownKind Search = replyKind Search
 shownKind Save = kindNumber Load
 shownKind Round = replyKind Round
+shownKind Clauses = replyKind Clauses
 
 pub record AtLine (g : Ledger) (b : List ℤ) (e : Exchange) : Type 0 where
   -- 'The first byte is the kind': an accepted line has one (`no-kind`)
@@ -155,6 +166,7 @@ neverOutside Certify = false
 neverOutside Search = false
 neverOutside Save = false
 neverOutside Round = true
+neverOutside Clauses = false
 
 pub record AtCall (g : Ledger) (b : List ℤ) (e : Exchange) : Type 0 where
   -- 'A line is accepted if its reply isn't empty and doesn't begin with FF'

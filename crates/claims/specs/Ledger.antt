@@ -7,12 +7,13 @@ use lib.ListN.{length}
 use Rattle.tables.specs.Numbers.{Numbers, numbers, numbersShape, numbersCosts}
 use Rattle.tables.specs.Plans.{Shape, Costs, total}
 use Rattle.lines.specs.declared.kind.Kind.{Kind}
-use Rattle.lines.specs.declared.kind.Kind.the-variants.{Load, Add, Shift, Tighten, Certify, Search, Save, Round}
+use Rattle.lines.specs.declared.kind.Kind.the-variants.{Load, Add, Shift, Tighten, Certify, Search, Save, Round, Clauses}
 use Rattle.lines.specs.declared.kind.NewKind.{NewKind}
 use Rattle.lines.specs.declared.kind.NewKind.the-variants.{Known, NoSuch}
 use Rattle.lines.specs.Kinds.{newKind}
 use Rattle.lines.specs.Layout.{kindOf, addTrain, addChoice, addPoints}
 use Rattle.decoding.specs.Numbers.{numbersOf}
+use Rattle.decoding.specs.Clauses.{clauseNumbersOf}
 use Rattle.replies.specs.Replies.{refusalByte}
 use Rattle.replies.specs.Shown.{kindShown}
 use Rattle.service.specs.Calls.{Exchange}
@@ -61,7 +62,8 @@ abbrev pub byKind : {A : Type 0} → (Kind → A) → A → List ℕ → A
 byKind f other l = ifKnown f other (newKind (kindOf l))
 
 -- what the ledger becomes by an accepted line of each kind. 'Accepted load: n, s, sizes, pairs and costs in points become those of the line'; 'Accepted add: the cost of the named choice grows by
--- the line's points', where that choice isn't forbidden; 'Every other accepted line ..: nothing changes'; document 02, of a round: 'an accepted one changes nothing in the ledger'
+-- the line's points', where that choice isn't forbidden; 'Every other accepted line ..: nothing changes'; document 02, of a round: 'an accepted one changes nothing in the ledger', of clauses: 'an accepted one
+-- sets the ledger likewise'
 abbrev pub changed : Kind → List ℕ → Ledger → Ledger
 changed Load l g = numbersLedger (numbersOf l)
 changed Add l g = addedLedger l g
@@ -71,8 +73,9 @@ changed Certify l g = g
 changed Search l g = g
 changed Save l g = g
 changed Round l g = g
+changed Clauses l g = numbersLedger (clauseNumbersOf l)
 
--- 'a list with an accepted load': the kinds that load
+-- 'a list with an accepted load': the kinds that load; a line of clauses 'counts as an accepted load'
 abbrev pub loads : Kind → Bool
 loads Load = true
 loads Add = false
@@ -82,6 +85,7 @@ loads Certify = false
 loads Search = false
 loads Save = false
 loads Round = false
+loads Clauses = true
 
 -- ---- lists of lines with their replies
 

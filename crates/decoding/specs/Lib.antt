@@ -1,2 +1,3 @@
 -- The rule, and nothing besides.
 pub mod Numbers
+pub mod Clauses

@@ -2,3 +2,4 @@
 pub mod LoadFields
 pub mod LoadAccepted
 pub mod Accepted
+pub mod ClausesAccepted

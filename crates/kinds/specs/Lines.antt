@@ -19,6 +19,7 @@ use Rattle.lines.specs.declared.request.Line.the-variants.{Asked, Refused}
 use Rattle.lines.specs.Layout.{kindWidth, below, addTrainField, addTrain, addChoiceField, addChoice, pointsField, addPoints, liftField, moveField, fullWeightField, certifyFullWeight, weightField, budgetField, searchBudget}
 use Rattle.lines.specs.Verdicts.{fieldVerdict, endVerdict, lastVerdict, runsVerdict, fieldRun}
 use Rattle.kinds.specs.Load.{loadVerdict, loadRequest}
+use Rattle.kinds.specs.Clauses.{clausesVerdict, clausesRequest}
 
 -- a kind without fields: '04 tighten: no fields', 07 save and 08, a directional round
 abbrev pub bareVerdict : List ℕ → Verdict
@@ -69,6 +70,7 @@ kindVerdict kind.Certify l b = certifyVerdict l (weightCount (shapeOf b))
 kindVerdict kind.Search l b = searchVerdict l
 kindVerdict kind.Save l b = bareVerdict l
 kindVerdict kind.Round l b = bareVerdict l
+kindVerdict kind.Clauses l b = clausesVerdict l
 
 abbrev pub kindRequest : Kind → List ℕ → List ℤ → Request
 kindRequest kind.Load l b = loadRequest l
@@ -79,6 +81,7 @@ kindRequest kind.Certify l b = certifyRequest l (weightCount (shapeOf b))
 kindRequest kind.Search l b = searchRequest l
 kindRequest kind.Save l b = Save
 kindRequest kind.Round l b = Round
+kindRequest kind.Clauses l b = clausesRequest l
 
 abbrev pub fieldsLine : Kind → List ℕ → List ℤ → Line
 fieldsLine k l b = concluded (kindVerdict k l b) (kindRequest k l b)

@@ -12,6 +12,7 @@ use lines::request::Request;
 mod add;
 mod bare;
 mod certify;
+pub mod clause_fields;
 pub mod load;
 mod search;
 mod shift;
@@ -30,5 +31,6 @@ pub fn read_fields(line: &[u8], bytes: usize, kind: Kind, block: &[i64]) -> Line
         Kind::Search => search::read_search(line, bytes),
         Kind::Save => bare::read_bare(line, bytes, Request::Save),
         Kind::Round => bare::read_bare(line, bytes, Request::Round),
+        Kind::Clauses => clause_fields::read_clauses(line, bytes),
     }
 }

@@ -26,14 +26,14 @@ use units::NewScale;
 use units::Scale;
 
 // n.
-const TRAINS: Field = Field {
+pub const TRAINS: Field = Field {
     at: Kind::WIDTH,
     width: Field::COUNT_WIDTH,
     rule: Rule::Between(1, Block::TRAINS as u64),
     refusal: Refusal::Range,
 };
 // s.
-const SCALE: Field = Field {
+pub const SCALE: Field = Field {
     at: TRAINS.at + TRAINS.width,
     width: Load::SCALE_WIDTH,
     rule: Rule::Between(Scale::MIN, Scale::MAX),
@@ -60,7 +60,7 @@ pub fn cost_field(at: usize) -> Field
 }
 
 // n and s.
-fn head_verdict(line: &[u8], bytes: usize) -> Verdict
+pub fn head_verdict(line: &[u8], bytes: usize) -> Verdict
     requires { ⌜ Framed (now line) bytes ⌝ }
     ensures { λ r. ⌜ r ≡ headVerdict (now (line .entry)) ⌝ }
 {

@@ -6,7 +6,7 @@ use native.Mathlib.Omega.{arith}
 use lib.Dec.{eqb}
 use borrow.Author.Tests.{eqb-true}
 use Rattle.lines.specs.declared.kind.Kind.{Kind}
-use Rattle.lines.specs.declared.kind.Kind.the-variants.{Load, Add, Shift, Tighten, Certify, Search, Save, Round}
+use Rattle.lines.specs.declared.kind.Kind.the-variants.{Load, Add, Shift, Tighten, Certify, Search, Save, Round, Clauses}
 use Rattle.lines.specs.declared.kind.NewKind.{NewKind}
 use Rattle.lines.specs.declared.kind.NewKind.the-variants.{Known, NoSuch}
 use Rattle.lines.specs.Kinds.{kindNumber, kindIf, newKind}
@@ -22,6 +22,7 @@ number-kind Certify = refl
 number-kind Search = refl
 number-kind Save = refl
 number-kind Round = refl
+number-kind Clauses = refl
 
 -- one kind's number, or another's
 module _ (n : ℕ) (k : Kind) where
@@ -36,7 +37,7 @@ module _ (n : ℕ) (k : Kind) where
   pub kind-number : newKind n ≡ Known k → n ≡ kindNumber k
   unfolding newKind
   kind-number =
-      kind-if Load _ (kind-if Add _ (kind-if Shift _ (kind-if Tighten _ (kind-if Certify _ (kind-if Search _ (kind-if Save _ (kind-if Round NoSuch (λ e. let z : _≡_ {A = ℕ} 0 1 = cc in absurd (omega arith)))))))))
+      kind-if Load _ (kind-if Add _ (kind-if Shift _ (kind-if Tighten _ (kind-if Certify _ (kind-if Search _ (kind-if Save _ (kind-if Round _ (kind-if Clauses NoSuch (λ e. let z : _≡_ {A = ℕ} 0 1 = cc in absurd (omega arith))))))))))
 
 -- so low that the reply to a line of this kind, whose first byte is 128 higher, is no refusal
 pub number-low : (k : Kind) → kindNumber k < 127
@@ -48,3 +49,4 @@ number-low Certify = omega arith
 number-low Search = omega arith
 number-low Save = omega arith
 number-low Round = omega arith
+number-low Clauses = omega arith

@@ -7,7 +7,7 @@ use Rattle.units.specs.Units.{scaleMin, scaleMax}
 use Rattle.refusals.specs.declared.Refusal.{Refusal}
 use Rattle.refusals.specs.declared.Refusal.the-variants.{Fields, Range, Cost, Absent, Move, FullWeight, Budget}
 use Rattle.tables.specs.Block.{maxTrains, maxChoices, maxPairs, maxCost}
-use Rattle.tables.specs.LineLimits.{maxMove, maxFullWeight, maxBudget}
+use Rattle.tables.specs.LineLimits.{maxMove, maxFullWeight, maxBudget, maxClauses}
 use Rattle.frames.specs.Fields.{field, signedField}
 use Rattle.frames.specs.Runs.{runOf}
 use Rattle.lines.specs.declared.field.Rule.{Rule}
@@ -200,3 +200,47 @@ budgetField = fieldAs kindWidth budgetWidth (Between 1 maxBudget) Budget
 
 abbrev pub searchBudget : List ℕ → ℕ
 searchBudget l = numberIn l budgetField
+
+-- ---- 09, document 02, change 7: 'n, s, count (2 bytes, at most 500, else 6), then for each clause two signed one-byte literals and a weight (3)'; n and s stand where a load has them
+
+abbrev pub clauseCountWidth : ℕ
+clauseCountWidth = 2
+
+abbrev pub clauseCountField : Field
+clauseCountField = fieldAs (endOf scaleField) clauseCountWidth (Between 0 maxClauses) Range
+
+abbrev pub clauseCount : List ℕ → ℕ
+clauseCount l = numberIn l clauseCountField
+
+abbrev pub literalWidth : ℕ
+literalWidth = 1
+
+-- how many bytes a clause has, and where clause k begins
+abbrev pub clauseWidth : ℕ
+clauseWidth = 2 * literalWidth + costWidth
+
+abbrev pub clauseAt : ℕ → ℕ
+clauseAt k = endOf clauseCountField + clauseWidth * k
+
+-- its literals are any numbers, 'judged after both literals'
+abbrev pub literalField : ℕ → Field
+literalField at = fieldAs at literalWidth Any Fields
+
+abbrev pub firstLiteralField : ℕ → Field
+firstLiteralField k = literalField (clauseAt k)
+
+abbrev pub secondLiteralField : ℕ → Field
+secondLiteralField k = literalField (endOf (firstLiteralField k))
+
+-- 7: 'A weight of FFFFFF is 7', as is every other above 1,000,000
+abbrev pub clauseWeightField : ℕ → Field
+clauseWeightField k = fieldAs (endOf (secondLiteralField k)) costWidth (Between 0 maxCost) Cost
+
+abbrev pub clauseFirst : List ℕ → ℕ → ℤ
+clauseFirst l k = signedIn l (firstLiteralField k)
+
+abbrev pub clauseSecond : List ℕ → ℕ → ℤ
+clauseSecond l k = signedIn l (secondLiteralField k)
+
+abbrev pub clauseWeight : List ℕ → ℕ → ℕ
+clauseWeight l k = numberIn l (clauseWeightField k)

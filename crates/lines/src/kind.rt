@@ -11,6 +11,7 @@ pub enum Kind {
     Search,
     Save,
     Round,
+    Clauses,
 }
 
 // What the constructor of a kind answers.
@@ -37,6 +38,7 @@ impl Kind {
             6 => NewKind::Known(Kind::Search),
             7 => NewKind::Known(Kind::Save),
             8 => NewKind::Known(Kind::Round),
+            9 => NewKind::Known(Kind::Clauses),
             _ => NewKind::NoSuch,
         }
     }
@@ -54,6 +56,7 @@ impl Kind {
             Kind::Search => 6,
             Kind::Save => 7,
             Kind::Round => 8,
+            Kind::Clauses => 9,
         }
     }
 
@@ -70,6 +73,7 @@ impl Kind {
             Kind::Search => true,
             Kind::Save => true,
             Kind::Round => true,
+            Kind::Clauses => false,
         }
     }
 }

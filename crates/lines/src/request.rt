@@ -1,4 +1,4 @@
-// Document 01, 'Lines': a read line is either a refusal or one of eight requests, each with its own fields. Offsets, in bytes, stand for long fields.
+// Document 01, 'Lines': a read line is either a refusal or one of nine requests, each with its own fields. Offsets, in bytes, stand for long fields.
 use crate::field::Field;
 use refusals::Refusal;
 use tables::block::Block;
@@ -63,6 +63,25 @@ pub struct Search {
     pub budget: u64,
 }
 
+// A study written as clauses.
+pub struct Clauses {
+    pub trains: usize,
+    pub scale: Scale,
+    // The first clause's place and the number of clauses; a clause is its two literals and then its weight.
+    pub clauses: FieldRun,
+}
+
+impl Clauses {
+    // How many bytes the number of clauses has.
+    pub const COUNT_WIDTH: usize = 2;
+    // How many bytes a literal has.
+    pub const LITERAL_WIDTH: usize = 1;
+    // How many bytes a clause has.
+    pub const WIDTH: usize = 2 * Self::LITERAL_WIDTH + Load::COST_WIDTH;
+    // The most clauses.
+    pub const MOST: usize = 500;
+}
+
 pub enum Request {
     Load(Load),
     Add(Add),
@@ -72,6 +91,7 @@ pub enum Request {
     Search(Search),
     Save,
     Round,
+    Clauses(Clauses),
 }
 
 pub enum Line {

@@ -1,5 +1,5 @@
 -- Document 01's own examples, computed: each row of 'What is declined' that the reader judges, 11 with the limits of document 02, change 3; the lines that only a later rule declines, marked cases 11 and 12; and document 02, change 5: FFFFFF in a load, FFFFFE,
--- FFFFFF in an add.
+-- FFFFFF in an add; and change 7: lines of clauses.
 use mathlib.Core.Bool.{Bool, true, false, cond, _&&_}
 use mathlib.Core.List.{List, [], _∷_, _++_}
 use Prim.Native.Nat.{ℕ}
@@ -14,6 +14,7 @@ use Rattle.refusals.specs.Verdicts.{firstOf}
 use Rattle.tables.specs.Block.{trainsPlace, scalePlace, pairsPlace, sizePlace, firstPlace, secondPlace, loadedChoicePlace, heldChoicePlace, loadedEntryPlace, heldEntryPlace, figure}
 use Rattle.tables.specs.Numbers.{isCost}
 use Rattle.tables.specs.WellFormed.{within, choiceUsed, entryUsed, headLimits, shapeLimits, costLimits, limitsAt, placesRight, before, follows, pairRight, pairsRight, isZero, isOpen, mate, mates, mated, holdsStudy, wellFormed, freshBlock, isFresh}
+use Rattle.clauses.specs.Clauses.{literalsRight}
 use Rattle.frames.specs.Digits.{digit, byteAt}
 use Rattle.frames.specs.Fields.{field, signed}
 use Rattle.frames.specs.Frames.{allDigits, framed}
@@ -24,6 +25,7 @@ use Rattle.lines.specs.Kinds.{newKind}
 use Rattle.lines.specs.Layout.{pairAt}
 use Rattle.lines.specs.Verdicts.{fieldVerdict, runsVerdict, lastVerdict}
 use Rattle.kinds.specs.Load.{pairOrdered, pairVerdict, headVerdict, restVerdict, loadVerdict}
+use Rattle.kinds.specs.Clauses.{clauseVerdict, clauseRunVerdict, clausesVerdict}
 use Rattle.kinds.specs.Lines.{addVerdict, shiftVerdict, certifyVerdict, searchVerdict}
 use Rattle.reader.specs.Reading.{studyLine, kindLine, lineOf}
 
@@ -74,7 +76,7 @@ numberOf (Asked q) = 0
 numberOf (Refused r) = refusalNumber r
 
 pub holds : Case → Bool
-unfolding j put putChoice putEntry isCost numberOf digit byteAt field signed allDigits framed pairAt firstOf fieldVerdict lastVerdict runsVerdict pairOrdered pairVerdict headVerdict restVerdict loadVerdict addVerdict shiftVerdict certifyVerdict searchVerdict newKind studyLine kindLine lineOf isFresh isZero pass before figure sum
+unfolding j put putChoice putEntry isCost numberOf digit byteAt field signed allDigits framed pairAt firstOf fieldVerdict lastVerdict runsVerdict pairOrdered pairVerdict headVerdict restVerdict loadVerdict literalsRight clauseVerdict clauseRunVerdict clausesVerdict addVerdict shiftVerdict certifyVerdict searchVerdict newKind studyLine kindLine lineOf isFresh isZero pass before figure sum
 holds c = eqb (numberOf (lineOf (c .line) (cond (c .loaded) j freshBlock))) (c .number)
 
 pub every : List Case → Bool
@@ -90,7 +92,7 @@ cases =
     ∷ row "ff" false 1
     ∷ long "" 19835 false 2
     ∷ row "FF" false 3
-    ∷ row "09" true 3
+    ∷ row "0A" true 3
     ∷ row "10" true 3
     ∷ row "07" false 4
     ∷ row "0700" false 4
@@ -132,6 +134,20 @@ cases =
     ∷ row "010200010101000000000000010001FFFFFF" false 0
     ∷ row "010200010101000000000000010001FFFFFE" false 7
     ∷ row "020000FFFFFF" true 7
+    ∷ row "09" false 5
+    ∷ row "0900" false 6
+    ∷ row "090100010000" false 0
+    ∷ row "0901000101F5" false 6
+    ∷ row "0902000100030102000005FF00000002FE01000001" false 0
+    ∷ row "0902000100030102000005FF00000002FE01000001" true 0
+    ∷ row "0902000100010001" false 19
+    ∷ row "0902000100018000000001" false 19
+    ∷ row "09020001000101FF000001" false 19
+    ∷ row "0902000100010103" false 19
+    ∷ row "09020001000100" false 5
+    ∷ row "090200010001010200000100" false 5
+    ∷ row "0902000100010102FFFFFF" false 7
+    ∷ row "09020001000101020F4241" false 7
     ∷ []
 
 pub cases-hold : T (every cases)

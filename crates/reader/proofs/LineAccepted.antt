@@ -19,7 +19,7 @@ use Rattle.frames.specs.Frames.{newFrame, Framed}
 use Rattle.frames.proofs.Bytes.{Whole, framed-whole, new-framed}
 use Rattle.frames.proofs.Widths.{field-below}
 use Rattle.lines.specs.declared.kind.Kind.{Kind}
-use Rattle.lines.specs.declared.kind.Kind.the-variants.{Load, Add, Shift, Tighten, Certify, Search, Save, Round}
+use Rattle.lines.specs.declared.kind.Kind.the-variants.{Load, Add, Shift, Tighten, Certify, Search, Save, Round, Clauses}
 use Rattle.lines.specs.declared.kind.NewKind.{NewKind}
 use Rattle.lines.specs.declared.kind.NewKind.the-variants.{Known, NoSuch}
 use Rattle.lines.specs.declared.request.Request.{Request}
@@ -88,6 +88,7 @@ request-kind Certify l b = refl
 request-kind Search l b = refl
 request-kind Save l b = refl
 request-kind Round l b = refl
+request-kind Clauses l b = refl
 
 -- a request that a line makes of a block, by the request's kind: its fields are the line's, they were judged fine, and a kind that needs a study found one
 abbrev pub Makes : List ℕ → List ℤ → Request → Type 0

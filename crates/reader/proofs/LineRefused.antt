@@ -7,7 +7,7 @@ use Prim.Native.Nat.{ℕ, zero, suc, _-_}
 use lib.Dec.{leb, eqb}
 use lib.IntN.{ℤ}
 use Rattle.refusals.specs.declared.Refusal.{Refusal}
-use Rattle.refusals.specs.declared.Refusal.the-variants.{Fields, Pair}
+use Rattle.refusals.specs.declared.Refusal.the-variants.{Fields, Pair, Literal}
 use Rattle.refusals.specs.declared.Verdict.{Verdict}
 use Rattle.refusals.specs.declared.Verdict.the-variants.{Fine, Declined}
 use Rattle.refusals.specs.Refusals.{refusalNumber}
@@ -16,12 +16,13 @@ use Rattle.tables.specs.Block.{trains, size}
 use Rattle.tables.specs.WellFormed.{isFresh}
 use Rattle.tables.specs.Plans.{shapeOf}
 use Rattle.tables.specs.Counts.{moveCount, weightCount}
+use Rattle.clauses.specs.Clauses.{literalsRight}
 use Rattle.frames.specs.declared.frame.NewFrame.{NewFrame}
 use Rattle.frames.specs.declared.frame.NewFrame.the-variants.{Within, Long, Broken}
 use Rattle.frames.specs.Frames.{newFrame}
 use Rattle.frames.specs.Digits.{bytes}
 use Rattle.lines.specs.declared.kind.Kind.{Kind}
-use Rattle.lines.specs.declared.kind.Kind.the-variants.{Load, Add, Shift, Tighten, Certify, Search, Save, Round}
+use Rattle.lines.specs.declared.kind.Kind.the-variants.{Load, Add, Shift, Tighten, Certify, Search, Save, Round, Clauses}
 use Rattle.lines.specs.declared.kind.NewKind.{NewKind}
 use Rattle.lines.specs.declared.kind.NewKind.the-variants.{Known, NoSuch}
 use Rattle.lines.specs.declared.field.Field.{Field}
@@ -29,9 +30,10 @@ use Rattle.lines.specs.declared.request.Request.{Request}
 use Rattle.lines.specs.declared.request.Line.{Line}
 use Rattle.lines.specs.declared.request.Line.the-variants.{Asked, Refused}
 use Rattle.lines.specs.Kinds.{newKind, needsStudy}
-use Rattle.lines.specs.Layout.{kindWidth, kindOf, numberIn, further, trainsField, scaleField, sizeField, pairCountField, addTrain, pointsField, liftField, moveField, fullWeightField, weightField, budgetField, loadTrains, loadPairs, choiceCount, entryCount, pairAt, endOf, below, choiceField, entryField, addTrainField, addChoiceField}
+use Rattle.lines.specs.Layout.{kindWidth, kindOf, numberIn, further, trainsField, scaleField, sizeField, pairCountField, addTrain, pointsField, liftField, moveField, fullWeightField, weightField, budgetField, loadTrains, loadPairs, choiceCount, entryCount, pairAt, endOf, below, choiceField, entryField, addTrainField, addChoiceField, clauseCountField, clauseCount, clauseAt, clauseWeightField, clauseFirst, clauseSecond}
 use Rattle.lines.specs.Verdicts.{obeys, fieldVerdict, runVerdict, endVerdict, runsVerdict, lastVerdict}
 use Rattle.kinds.specs.Load.{pairOrdered, pairVerdict, headVerdict, restVerdict, loadVerdict}
+use Rattle.kinds.specs.Clauses.{clauseVerdict, clauseRunVerdict, clausesVerdict}
 use Rattle.kinds.specs.Lines.{addVerdict, shiftVerdict, certifyVerdict, searchVerdict, concluded, kindVerdict}
 use Rattle.reader.specs.Reading.{studyLine, newKindLine, kindLine, framedLine, lineOf}
 
@@ -122,6 +124,19 @@ module _ (l : List ℕ) where
   unfolding searchVerdict
   reads-search = reads-last budgetField refl
 
+  reads-clause : (k : ℕ) → Reads (clauseVerdict l k)
+  unfolding clauseVerdict
+  reads-clause k =
+      reads-then (reads-unless (leb (clauseWeightField k .at) (bytes l)) Fields refl)
+      (reads-then (reads-unless (literalsRight (loadTrains l) (clauseFirst l k) (clauseSecond l k)) Literal refl) (reads-field (clauseWeightField k) refl))
+
+  reads-clauses : Reads (clausesVerdict l)
+  unfolding clausesVerdict headVerdict clauseRunVerdict
+  reads-clauses =
+      reads-then (reads-then (reads-field trainsField refl) (reads-field scaleField refl))
+      (reads-then (reads-field clauseCountField refl)
+      (reads-then (reads-first (clauseCount l) (clauseVerdict l) reads-clause) (reads-end (clauseAt (clauseCount l)))))
+
 -- ---- the line
 
 -- a line that is declined, if it is, under one of these numbers
@@ -147,6 +162,7 @@ module _ (l : List ℕ) (b : List ℤ) where
   reads-kind Search = reads-search l
   reads-kind Save = reads-end l kindWidth
   reads-kind Round = reads-end l kindWidth
+  reads-kind Clauses = reads-clauses l
 
   own-study : (k : Kind) → OwnLine (studyLine k l b)
   unfolding studyLine

@@ -1,7 +1,7 @@
--- Document 01, 'What is declined', and document 02, change 5: the number of each refusal.
+-- Document 01, 'What is declined', and document 02, changes 5 and 7: the number of each refusal.
 use Prim.Native.Nat.{ℕ}
 use Rattle.refusals.specs.declared.Refusal.{Refusal}
-use Rattle.refusals.specs.declared.Refusal.the-variants.{Characters, TooLong, NoKind, FreshBlock, Fields, Range, Cost, Pair, Absent, CostAbove, Move, PartsOutside, FullWeight, Sums, Budget, Malformed, ForbiddenWeight}
+use Rattle.refusals.specs.declared.Refusal.the-variants.{Characters, TooLong, NoKind, FreshBlock, Fields, Range, Cost, Pair, Absent, CostAbove, Move, PartsOutside, FullWeight, Sums, Budget, Malformed, ForbiddenWeight, Literal, PairsAbove}
 
 abbrev pub refusalNumber : Refusal → ℕ
 refusalNumber Characters = 1
@@ -21,3 +21,5 @@ refusalNumber Sums = 14
 refusalNumber Budget = 15
 refusalNumber Malformed = 16
 refusalNumber ForbiddenWeight = 18
+refusalNumber Literal = 19
+refusalNumber PairsAbove = 20

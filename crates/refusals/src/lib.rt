@@ -1,4 +1,4 @@
-// Document 01, 'What is declined', and document 02, change 5: the reasons, with their numbers, and verdicts on a line, a field or an operation.
+// Document 01, 'What is declined', and document 02, changes 5 and 7: the reasons, with their numbers, and verdicts on a line, a field or an operation.
 ghost use mathlib.Core.Path.{_≡_};
 ghost use Rattle.refusals.specs.Refusals.{refusalNumber};
 ghost use Rattle.refusals.specs.Verdicts.{isFine};
@@ -37,6 +37,10 @@ pub enum Refusal {
     Malformed,
     // A weight above 0 on a forbidden entry.
     ForbiddenWeight,
+    // A literal of an absent train, a first literal of 0, or one train twice.
+    Literal,
+    // More pairs than a block has.
+    PairsAbove,
 }
 
 // Document 01's number of a refusal.
@@ -61,6 +65,8 @@ pub fn number(r: Refusal) -> u8
         Refusal::Budget => 15,
         Refusal::Malformed => 16,
         Refusal::ForbiddenWeight => 18,
+        Refusal::Literal => 19,
+        Refusal::PairsAbove => 20,
     }
 }
 

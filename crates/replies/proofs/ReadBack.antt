@@ -7,7 +7,7 @@ use native.Mathlib.Omega.{arith}
 use lib.Dec.{eqb}
 use lib.IntN.{ℤ}
 use Rattle.refusals.specs.declared.Refusal.{Refusal}
-use Rattle.refusals.specs.declared.Refusal.the-variants.{Characters, TooLong, NoKind, FreshBlock, Fields, Range, Cost, Pair, Absent, CostAbove, Move, PartsOutside, FullWeight, Sums, Budget, Malformed, ForbiddenWeight}
+use Rattle.refusals.specs.declared.Refusal.the-variants.{Characters, TooLong, NoKind, FreshBlock, Fields, Range, Cost, Pair, Absent, CostAbove, Move, PartsOutside, FullWeight, Sums, Budget, Malformed, ForbiddenWeight, Literal, PairsAbove}
 use Rattle.refusals.specs.Refusals.{refusalNumber}
 use Rattle.tables.specs.Block.{constant}
 use Rattle.bounds.specs.Bounds.{boundOf}
@@ -60,6 +60,8 @@ refusal-low Sums = omega arith
 refusal-low Budget = omega arith
 refusal-low Malformed = omega arith
 refusal-low ForbiddenWeight = omega arith
+refusal-low Literal = omega arith
+refusal-low PairsAbove = omega arith
 
 module _ (r : Refusal) where
   pub refusal-kind : kindShown (refusalReply r) ≡ refusalByte
@@ -70,7 +72,7 @@ module _ (r : Refusal) where
   unfolding refusalReply
   refusal-number = fields-shown refusalWidths (refusalNumbers r) [] refl 1 (omega arith) (refusal-low r)
 
--- ---- 81 to 84, and 88
+-- ---- 81 to 84, 88 and 89
 
 module _ (kind : Kind) (b : List ℤ) where
   pub bound-kind : kindShown (boundReply kind b) ≡ replyKind kind

@@ -51,7 +51,7 @@ refusalNumbers r = refusalByte ∷ refusalNumber r ∷ []
 unfoldable pub refusalReply : Refusal → List ℕ
 refusalReply r = fieldsDigits refusalWidths (refusalNumbers r) []
 
--- ---- 'Kinds 01 to 04: 81 to 84', 'Certify: 85', 'Search: 86', and 88 for 08
+-- ---- 'Kinds 01 to 04: 81 to 84', 'Certify: 85', 'Search: 86', and 88 for 08, 89 for 09
 
 -- the first byte of the reply to a line of this first byte
 abbrev pub replyByte : ℕ → ℕ

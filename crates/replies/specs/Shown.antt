@@ -24,7 +24,7 @@ kindShown reply = field reply 0 1
 abbrev pub numberShown : List ℕ → ℕ
 numberShown reply = shownIn refusalWidths 1 reply
 
--- '81 to 84, c0 in parts (6), bound in points (6)'; '88 with constant and bound'
+-- '81 to 84, c0 in parts (6), bound in points (6)'; '88 with constant and bound'; '89 as for a load'
 abbrev pub constantShown : List ℕ → ℕ
 constantShown reply = shownIn boundWidths 1 reply
 

@@ -15,6 +15,7 @@ use Rattle.tables.specs.WellFormed.{Study}
 use Rattle.tables.proofs.Study.{trains-range}
 use Rattle.operations.specs.Add.{addOutcome}
 use Rattle.operations.specs.Load.{loadedBlock}
+use Rattle.clauses.specs.Outcomes.{clausesOutcome}
 use Rattle.shift.specs.Shift.{shiftOutcome}
 use Rattle.tighten.specs.Tighten.{tightenOutcome}
 use Rattle.directional.specs.Directional.{directOutcome}
@@ -26,10 +27,11 @@ use Rattle.frames.specs.Runs.{runOf, signedRunOf}
 use Rattle.lines.specs.declared.kind.Kind.{Kind}
 use Rattle.lines.specs.declared.kind.Kind.the-variants as kind
 use Rattle.lines.specs.declared.request.Request.{Request}
-use Rattle.lines.specs.declared.request.Request.the-variants.{Load, Add, Shift, Tighten, Certify, Search, Save, Round}
+use Rattle.lines.specs.declared.request.Request.the-variants.{Load, Add, Shift, Tighten, Certify, Search, Save, Round, Clauses}
 use Rattle.lines.specs.Kinds.{requestKind}
 use Rattle.lines.specs.Layout.{moveWidth, weightWidth}
 use Rattle.decoding.specs.Numbers.{numbersOf}
+use Rattle.decoding.specs.Clauses.{clausesOf}
 use Rattle.search.specs.Answer.{searchAnswer}
 use Rattle.replies.specs.Replies.{longestFixed}
 use Rattle.replies.proofs.Lengths.{bound-length, certify-length, search-length, refusal-length}
@@ -65,6 +67,7 @@ requested-short l b room (Certify q) e a = certified-short (q .full) (certificat
 requested-short l b room (Search q) e a = omega (arith, search-length (trains b) (searchAnswer b (q .budget)), trains-range (study-ready a refl))
 requested-short l b room Save e a = absurd (not-both e refl)
 requested-short l b room Round e a = operated-short kind.Round (directOutcome b) b _
+requested-short l b room (Clauses q) e a = operated-short kind.Clauses (clausesOutcome (q .trains) (q .scale .0) (clausesOf l)) _ _
 
 -- a saved line is a frame
 saved-most : (l : List ℕ) (b : List ℤ) → Study b → UpTo maxCharacters (requested Save l b .reply)
@@ -81,3 +84,4 @@ requested-most l b room (Certify q) a = omega (arith, requested-short l b room (
 requested-most l b room (Search q) a = omega (arith, requested-short l b room (Search q) refl a)
 requested-most l b room Save a = saved-most l b (study-ready a refl)
 requested-most l b room Round a = omega (arith, requested-short l b room Round refl a)
+requested-most l b room (Clauses q) a = omega (arith, requested-short l b room (Clauses q) refl a)

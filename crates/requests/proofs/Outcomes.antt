@@ -14,6 +14,8 @@ use Rattle.tables.specs.Numbers.{Numbers}
 use Rattle.operations.specs.Add.{added, addOutcome}
 use Rattle.operations.specs.Load.{loadedBlock}
 use Rattle.rewriting.specs.Judged.{kept}
+use Rattle.clauses.specs.Clauses.{Clauses}
+use Rattle.clauses.specs.Outcomes.{clausesOutcome, clausesBlock}
 use Rattle.shift.specs.Shift.{shifted, shiftOutcome, shiftBlock}
 use Rattle.tighten.specs.Tighten.{tightened, tightenOutcome}
 use Rattle.directional.specs.Directional.{directed, directOutcome}
@@ -28,9 +30,11 @@ use Rattle.lines.specs.declared.request.Add.{Add}
 use Rattle.lines.specs.declared.request.Shift.{Shift}
 use Rattle.lines.specs.declared.request.Search.{Search}
 use Rattle.lines.specs.declared.request.Certify.{Certify}
-use Rattle.lines.specs.declared.request.Request.the-variants.{Load as load-of, Add as add-of, Shift as shift-of, Tighten as tighten-of, Certify as certify-of, Search as search-of, Save as save-of, Round as round-of}
-use Rattle.lines.specs.Layout.{moveWidth, weightWidth}
+use Rattle.lines.specs.declared.request.Clauses.{Clauses as ClauseFields}
+use Rattle.lines.specs.declared.request.Request.the-variants.{Load as load-of, Add as add-of, Shift as shift-of, Tighten as tighten-of, Certify as certify-of, Search as search-of, Save as save-of, Round as round-of, Clauses as clauses-of}
+use Rattle.lines.specs.Layout.{moveWidth, weightWidth, loadTrains, loadScale}
 use Rattle.decoding.specs.Numbers.{numbersOf}
+use Rattle.decoding.specs.Clauses.{clausesOf, clauseNumbersOf}
 use Rattle.search.specs.Answer.{searchAnswer}
 use Rattle.replies.specs.Replies.{boundReply, searchReply}
 use Rattle.replies.specs.Wrote.{Wrote}
@@ -72,6 +76,14 @@ pub load-answers : (l : List ℕ) (b : List ℤ) (q : Load) {x : Numbers} {left 
     → Wrote buffer (boundReply kind.Load left) after n → Answers (requested (load-of q) l b) buffer left after n
 unfolding requested
 load-answers l b q e f w = record { block = f ∙ ap loadedBlock e; reply = rw (f, e) at w }
+
+-- a study written as clauses, by the clauses that were read
+pub clauses-answers : (l : List ℕ) (b : List ℤ) (q : ClauseFields) {cs : Clauses} {o : Verdict} {left : List ℤ} {buffer after : List ℕ} {n : ℕ} → q .trains ≡ loadTrains l → q .scale .0 ≡ loadScale l
+    → cs ≡ clausesOf l → o ≡ clausesOutcome (q .trains) (q .scale .0) cs → left ≡ clausesBlock (q .trains) (q .scale .0) cs b
+    → Wrote buffer (operated kind.Clauses o left left .reply) after n → Answers (requested (clauses-of q) l b) buffer left after n
+unfolding requested
+clauses-answers l b q et es ec eo eb w =
+    operated-answers kind.Clauses (clausesOutcome (q .trains) (q .scale .0) (clausesOf l)) b (loadedBlock (clauseNumbersOf l)) (rw ec at eo) (rw (et, es) (rw (ec, et, es) at eb)) w
 
 -- the other requests
 

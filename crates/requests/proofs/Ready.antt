@@ -1,5 +1,5 @@
 -- What an accepted line gives to the function for its request: the study, the request's fields, where they stand, and their ranges.
-use mathlib.Core.Path.{_≡_, refl, sym}
+use mathlib.Core.Path.{_≡_, refl, sym, _∙_}
 use mathlib.Core.Bool.{true, _||_}
 use mathlib.Core.List.{List}
 use mathlib.Core.Logic.{dite}
@@ -16,10 +16,11 @@ use Rattle.theory.specs.Lists.{listOf}
 use Rattle.theory.proofs.Range.{both-true}
 use Rattle.theory.proofs.Lists.{list-length, list-nth, list-past}
 use Rattle.units.specs.Units.{thePoints, theScale}
+use Rattle.refusals.specs.declared.Verdict.{Verdict}
 use Rattle.refusals.specs.declared.Verdict.the-variants.{Fine}
 use Rattle.tables.specs.Block.{blockLength, maxTrains, maxChoices, maxPairs, entriesOfPair, trains}
 use Rattle.tables.specs.Numbers.{Numbers, InRange, numbers}
-use Rattle.tables.specs.LineLimits.{maxMove, maxFullWeight, maxBudget}
+use Rattle.tables.specs.LineLimits.{maxMove, maxFullWeight, maxBudget, maxClauses}
 use Rattle.tables.specs.WellFormed.{holdsStudy, wellFormed, Study, isFresh}
 use Rattle.tables.specs.Plans.{shapeOf}
 use Rattle.tables.specs.Counts.{moveCount, weightCount}
@@ -27,6 +28,9 @@ use Rattle.tables.proofs.Counting.{move-count-most, weight-count-most}
 use Rattle.tables.proofs.Study.{study-of, trains-range}
 use Rattle.operations.specs.Load.{loadedBlock}
 use Rattle.operations.proofs.Loaded.{load-study}
+use Rattle.clauses.specs.Clauses.{Clauses, clauses, InLimits}
+use Rattle.clauses.specs.Outcomes.{clausesOutcome, clausesBlock}
+use Rattle.clauses.proofs.Block.{clauses-study}
 use Rattle.shift.specs.Shift.{SmallMoves}
 use Rattle.certificates.specs.Certify.{WeightsFor}
 use Rattle.frames.specs.Digits.{bytes}
@@ -38,18 +42,23 @@ use Rattle.lines.specs.declared.request.Add.{Add}
 use Rattle.lines.specs.declared.request.Shift.{Shift}
 use Rattle.lines.specs.declared.request.Certify.{Certify}
 use Rattle.lines.specs.declared.request.Search.{Search}
+use Rattle.lines.specs.declared.request.Clauses.{Clauses as ClauseFields}
 use Rattle.lines.specs.declared.request.Request.{Request}
-use Rattle.lines.specs.declared.request.Request.the-variants.{Load as load-of, Add as add-of, Shift as shift-of, Certify as certify-of, Search as search-of}
+use Rattle.lines.specs.declared.request.Request.the-variants.{Load as load-of, Add as add-of, Shift as shift-of, Certify as certify-of, Search as search-of, Clauses as clauses-of}
 use Rattle.lines.specs.Kinds.{needsStudy, requestKind}
-use Rattle.lines.specs.Layout.{costWidth, moveWidth, weightWidth, loadTrains, loadScale, choiceCount, loadPairs, loadFirst, loadSecond, pairAt, addTrain, addChoice, addPoints, certifyFullWeight, searchBudget, numberIn, signedIn, endOf, further, countWidth, pairWidth, sizeField, choiceField, pairCountField, liftField, moveField, weightField}
+use Rattle.lines.specs.Layout.{costWidth, moveWidth, weightWidth, loadTrains, loadScale, choiceCount, loadPairs, loadFirst, loadSecond, pairAt, addTrain, addChoice, addPoints, certifyFullWeight, searchBudget, numberIn, signedIn, endOf, further, countWidth, pairWidth, sizeField, choiceField, pairCountField, liftField, moveField, weightField, clauseCount, clauseAt}
 use Rattle.lines.specs.Verdicts.{fieldRun}
 use Rattle.lines.proofs.Judged.{field-within}
 use Rattle.kinds.specs.Load.{loadVerdict}
+use Rattle.kinds.specs.Clauses.{clausesVerdict}
 use Rattle.kinds.proofs.LoadAccepted.{FineLoad, load-fine, load-sized, load-pair}
 use Rattle.kinds.proofs.LoadFields.{head-fine, choice-count-most, entry-count-most, pair-next, pair-start, pair-ordered}
+use Rattle.kinds.proofs.ClausesAccepted.{clauses-fine}
 use Rattle.kinds.proofs.Accepted.{add-fine, shift-fine, certify-fine, search-fine}
 use Rattle.decoding.specs.Numbers.{entriesOf, numbersOf}
+use Rattle.decoding.specs.Clauses.{clausesOf}
 use Rattle.decoding.proofs.LoadRange.{load-in-range}
+use Rattle.decoding.proofs.ClausesRange.{clauses-in-limits}
 use Rattle.decoding.proofs.Entries.{entries-none, entries-length}
 use Rattle.reader.proofs.LineAccepted.{Makes, line-makes, frame-length, add-there, weight-below}
 use Rattle.requests.specs.Wrote.{Asks, Adds}
@@ -230,6 +239,35 @@ load-numbers {l} {q} r es en em sizes choices firsts seconds entries =
 -- what they make is a study
 pub loaded-study : {l : List ℕ} {q : Load} → LoadReady l q → {x : Numbers} → x ≡ numbersOf l → {b : List ℤ} → b ≡ loadedBlock x → Study b
 loaded-study r e f = rw (f, e) (load-study (r .range))
+
+-- ---- 09, a study written as clauses
+
+pub record ClausesReady (l : List ℕ) (q : ClauseFields) : Type 0 where
+  pub fine : clausesVerdict l ≡ Fine
+  pub digits : framed l ≡ true
+  pub trains : q .trains ≡ loadTrains l
+  pub scale : q .scale .0 ≡ loadScale l
+  pub count : (q .clauses .count ≡ clauseCount l) × (clauseCount l ≤ maxClauses)
+  pub limits : InLimits (q .trains) (q .scale .0) (clausesOf l)
+
+pub clauses-ready : {l : List ℕ} {b : List ℤ} {q : ClauseFields} {room : ℕ} → Asks l b (clauses-of q) room → ClausesReady l q
+clauses-ready {l} {b} {q} a =
+    let m = makes a in
+    let e : q ≡ record { trains = loadTrains l; scale = theScale (loadScale l); clauses = fieldRun (clauseAt 0) (clauseCount l) } = cc in
+    rw e (record { fine = m .1; digits = frame a .digits; trains = refl; scale = refl; count = (refl, clauses-fine l (m .1) .few); limits = clauses-in-limits l (m .1) })
+
+-- the lists that were decoded are the line's clauses
+pub clauses-read : (l : List ℕ) {firsts seconds : List ℤ} {weights : List ℕ} → firsts ≡ clausesOf l .firsts → seconds ≡ clausesOf l .seconds → weights ≡ clausesOf l .weights
+    → clauses firsts seconds weights ≡ clausesOf l
+clauses-read l firsts seconds weights = rw (firsts, seconds, weights)
+
+pub clauses-fit : {l : List ℕ} {q : ClauseFields} → ClausesReady l q → {cs : Clauses} → cs ≡ clausesOf l → InLimits (q .trains) (q .scale .0) cs
+clauses-fit r e = rw e (r .limits)
+
+-- where they are not declined, they make a study
+pub clauses-made : {l : List ℕ} {q : ClauseFields} → ClausesReady l q → {cs : Clauses} {o : Verdict} {left : List ℤ} (b : List ℤ) → cs ≡ clausesOf l
+    → o ≡ clausesOutcome (q .trains) (q .scale .0) cs → left ≡ clausesBlock (q .trains) (q .scale .0) cs b → o ≡ Fine → Study left
+clauses-made r b ec eo eb e = rw (eb, ec) (clauses-study (r .limits) (sym (rw ec at eo) ∙ e) b)
 
 -- a well-formed block has its length
 pub right-length : (b : List ℤ) → wellFormed b ≡ true → length b ≡ blockLength

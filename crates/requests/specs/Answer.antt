@@ -14,6 +14,7 @@ use Rattle.operations.specs.Add.{added, addOutcome}
 use Rattle.operations.specs.Load.{loadedBlock}
 use Rattle.operations.specs.Saved.{savedNumbers}
 use Rattle.rewriting.specs.Judged.{kept}
+use Rattle.clauses.specs.Outcomes.{clausesOutcome}
 use Rattle.shift.specs.Shift.{shifted, shiftOutcome}
 use Rattle.tighten.specs.Tighten.{tightened, tightenOutcome}
 use Rattle.directional.specs.Directional.{directed, directOutcome}
@@ -24,12 +25,13 @@ use Rattle.frames.specs.Runs.{runOf, signedRunOf}
 use Rattle.lines.specs.declared.kind.Kind.{Kind}
 use Rattle.lines.specs.declared.kind.Kind.the-variants as kind
 use Rattle.lines.specs.declared.request.Request.{Request}
-use Rattle.lines.specs.declared.request.Request.the-variants.{Load, Add, Shift, Tighten, Certify, Search, Save, Round}
+use Rattle.lines.specs.declared.request.Request.the-variants.{Load, Add, Shift, Tighten, Certify, Search, Save, Round, Clauses}
 use Rattle.lines.specs.declared.request.Line.{Line}
 use Rattle.lines.specs.declared.request.Line.the-variants.{Asked, Refused}
 use Rattle.lines.specs.Layout.{moveWidth, weightWidth}
 use Rattle.lines.specs.Text.{loadDigits}
 use Rattle.decoding.specs.Numbers.{numbersOf}
+use Rattle.decoding.specs.Clauses.{clausesOf, clauseNumbersOf}
 use Rattle.reader.specs.Reading.{lineOf}
 use Rattle.search.specs.Answer.{searchAnswer}
 use Rattle.replies.specs.Replies.{refusalReply, boundReply, certifyReply, searchReply}
@@ -46,8 +48,8 @@ answered b reply = record { block = b; reply = reply }
 abbrev pub declined : List ℤ → Refusal → Answer
 declined b r = answered b (refusalReply r)
 
--- an operation that ends at `new` and is done answers with the new constant and bound, a directional round too: 'The reply is 88 with constant and bound; 12 applies'; a declined one, 10 or 12,
--- leaves the block
+-- an operation that ends at `new` and is done answers with the new constant and bound, a directional round too: 'The reply is 88 with constant and bound; 12 applies'; a declined one, 10, 12 or
+-- 20, leaves the block
 abbrev pub operated : Kind → Verdict → List ℤ → List ℤ → Answer
 operated kind Fine old new = answered new (boundReply kind new)
 operated kind (Declined r) old new = declined old r
@@ -75,6 +77,7 @@ requested (Certify q) l b = certified (q .full) (certificate b (weightsOf b (q .
 requested (Search q) l b = answered b (searchReply (trains b) (searchAnswer b (q .budget)))
 requested Save l b = saved b
 requested Round l b = operated kind.Round (directOutcome b) b (kept b (directed b))
+requested (Clauses q) l b = operated kind.Clauses (clausesOutcome (q .trains) (q .scale .0) (clausesOf l)) b (loadedBlock (clauseNumbersOf l))
 
 -- what a line asks, done, or the refusal
 abbrev pub carriedOut : Line → List ℕ → List ℤ → Answer
@@ -91,6 +94,7 @@ fixedReply kind.Certify = true
 fixedReply kind.Search = true
 fixedReply kind.Save = false
 fixedReply kind.Round = true
+fixedReply kind.Clauses = true
 
 -- 17: a reply that is longer than the room for it 'hands back an empty part and writes nothing', and leaves the block
 abbrev pub fitted : ℕ → List ℤ → Answer → Answer

@@ -1,6 +1,7 @@
 // A line on a well-formed block: what it asks is carried out, and answered into the room that there is. A module for each kind.
 mod add_line;
 mod certify_line;
+mod clauses_line;
 pub mod line;
 mod load_line;
 mod outcome;

@@ -9,6 +9,7 @@ ghost use Rattle.requests.specs.Answer.{requested, fitted, lineAnswer};
 ghost use Rattle.requests.specs.Wrote.{Answers, Asks};
 use crate::add_line;
 use crate::certify_line;
+use crate::clauses_line;
 use crate::load_line;
 use crate::round_line;
 use crate::save_line;
@@ -45,5 +46,6 @@ fn answer_request(line: &[u8], block: &mut [i64], reply: &mut [u8], q: Request) 
         Request::Search(p) => search_line::answer_search(block, reply, p),
         Request::Save => save_line::answer_save(block, reply),
         Request::Round => round_line::answer_round(block, reply),
+        Request::Clauses(p) => clauses_line::answer_clauses(line, block, reply, p),
     }
 }

@@ -51,6 +51,12 @@ enum-told-8 c = search needs
 read-bare-requires-3 : tie.Need-read-bare-requires-3
 read-bare-requires-3 c κs = search needs
 
+enum-told-9 : tie.Need-enum-told-9
+enum-told-9 c = search needs
+
+read-clauses-requires : tie.Need-read-clauses-requires
+read-clauses-requires c κs = search needs
+
 returns : tie.Need-returns
 returns c = rw (c .before .enum-told .given .1) (c .read-load .ensures)
 
@@ -75,6 +81,9 @@ returns-7 c = rw (c .before .enum-told7 .given .1) (c .read-bare2 .ensures)
 returns-8 : tie.Need-returns-8
 returns-8 c = rw (c .before .enum-told8 .given .1) (c .read-bare3 .ensures)
 
+returns-9 : tie.Need-returns-9
+returns-9 c = rw (c .before .enum-told9 .given .1) (c .read-clauses .ensures)
+
 pub read-fields-spec : {M : Type 1} → statement M
 read-fields-spec =
     tie.close
@@ -95,6 +104,8 @@ read-fields-spec =
     read-bare-requires-2
     enum-told-8
     read-bare-requires-3
+    enum-told-9
+    read-clauses-requires
     returns
     returns-2
     returns-3
@@ -102,4 +113,5 @@ read-fields-spec =
     returns-5
     returns-6
     returns-7
-    returns-8)
+    returns-8
+    returns-9)

@@ -14,7 +14,7 @@ write-outcome-requires : tie.Need-write-outcome-requires
 write-outcome-requires c κs =
     let s = c .before .before .before .before .before .before .before in
     let q = s .args .q in
-    (search needs, rw (c .before .before .before .add .ensures .1) (add-study (s .pre .1 .study) (q .train) (q .choice) (q .points .0) (s .pre .1 .train) (s .pre .1 .choice)))
+    (search needs, λ e. rw (c .before .before .before .add .ensures .1) (add-study (s .pre .1 .study) (q .train) (q .choice) (q .points .0) (s .pre .1 .train) (s .pre .1 .choice)))
 
 same-length : tie.Need-same-length
 same-length c = search needs

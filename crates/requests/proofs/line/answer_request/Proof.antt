@@ -56,6 +56,12 @@ enum-told-3 c = search needs
 answer-round-requires : tie.Need-answer-round-requires
 answer-round-requires c κs = let a = rw (c .before .before .enum-told3 .given .1) at (c .before .before .before .before .before .before .pre) in (a .fits, study-ready a refl)
 
+enum-known-q-6 : tie.Need-enum-known-q-6
+enum-known-q-6 c = search needs
+
+answer-clauses-requires : tie.Need-answer-clauses-requires
+answer-clauses-requires c κs = let a = rw (c .before .before .before .q6 .given .1) at (c .before .before .before .before .before .before .before .pre) in a
+
 same-length : tie.Need-same-length
 same-length c = search needs
 
@@ -152,6 +158,18 @@ returns-8 c =
     let g = c .before .before .before .before .before .before .enum-told3 .given in
     rw (g .1) (fixed-answers (rw (g .1) at (s .pre)) refl (round-answers (s .args .line .now) (s .args .block .now) (c .before .before .before .answer-round .ensures)))
 
+same-length-17 : tie.Need-same-length-17
+same-length-17 c = search needs
+
+same-length-18 : tie.Need-same-length-18
+same-length-18 c = search needs
+
+returns-9 : tie.Need-returns-9
+returns-9 c =
+    let s = c .before .before .before .before .before .before .before .before .before .before .before in
+    let g = c .before .before .before .before .before .before .before .q6 .given in
+    rw (g .1) (fixed-answers (rw (g .1) at (s .pre)) refl (c .before .before .before .answer-clauses .ensures))
+
 pub answer-request-spec : {M : Type 1} → statement M
 answer-request-spec =
     tie.close
@@ -172,6 +190,8 @@ answer-request-spec =
     answer-save-requires
     enum-told-3
     answer-round-requires
+    enum-known-q-6
+    answer-clauses-requires
     same-length
     same-length-2
     returns
@@ -195,4 +215,7 @@ answer-request-spec =
     returns-7
     same-length-15
     same-length-16
-    returns-8)
+    returns-8
+    same-length-17
+    same-length-18
+    returns-9)

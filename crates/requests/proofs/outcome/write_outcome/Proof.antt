@@ -1,4 +1,4 @@
--- Done, the bound of the block; declined, the reason.
+-- Done, the bound of the block, which is a study then; declined, the reason.
 use borrow.Author.Needs.{needs}
 use Rattle.requests.proofs.outcome.write_outcome.Statement.{statement}
 use Rattle.requests.proofs.outcome.write_outcome.Tie as tie
@@ -7,7 +7,7 @@ enum-told : tie.Need-enum-told
 enum-told c = search needs
 
 write-bound-requires : tie.Need-write-bound-requires
-write-bound-requires c κs = search needs
+write-bound-requires c κs = (search needs, c .before .before .before .before .pre .1 (c .before .enum-told .given .1))
 
 enum-known-outcome : tie.Need-enum-known-outcome
 enum-known-outcome c = search needs

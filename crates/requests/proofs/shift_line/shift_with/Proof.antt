@@ -24,7 +24,7 @@ shift-requires c κs =
     ((r .study, list-length _ (s .args .q .lifts .count) ∙ r .lift-count .0, list-length _ (s .args .q .moves .count) ∙ r .move-count .0), (r .lifts, r .moves))
 
 write-outcome-requires : tie.Need-write-outcome-requires
-write-outcome-requires c κs = (search needs, rw (c .before .before .before .shift .ensures .1) (let s = shift-ready (c .before .before .before .before .before .before .before .before .before .before .before .before .before .before .before .pre .0) .study in judged-study s (shift-rewrites s _ _)))
+write-outcome-requires c κs = (search needs, λ e. rw (c .before .before .before .shift .ensures .1) (let s = shift-ready (c .before .before .before .before .before .before .before .before .before .before .before .before .before .before .before .pre .0) .study in judged-study s (shift-rewrites s _ _)))
 
 same-length : tie.Need-same-length
 same-length c = search needs

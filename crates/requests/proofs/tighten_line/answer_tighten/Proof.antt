@@ -13,7 +13,7 @@ tighten-requires : tie.Need-tighten-requires
 tighten-requires c κs = search needs
 
 write-outcome-requires : tie.Need-write-outcome-requires
-write-outcome-requires c κs = (search needs, rw (c .before .before .before .tighten .ensures .1) (let s = c .before .before .before .before .before .before .pre .1 in judged-study s (tighten-rewrites s)))
+write-outcome-requires c κs = (search needs, λ e. rw (c .before .before .before .tighten .ensures .1) (let s = c .before .before .before .before .before .before .pre .1 in judged-study s (tighten-rewrites s)))
 
 same-length : tie.Need-same-length
 same-length c = search needs
