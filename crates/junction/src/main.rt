@@ -7,6 +7,7 @@ ghost use lib.ListN.{length, take};
 ghost use Rattle.io.specs.Counts.{clamped};
 ghost use Rattle.stream.specs.Parts.{overPart, lastAnswer};
 ghost use Rattle.stream.specs.Steps.{Leaves, AfterParts, StepPrints, EndPrints};
+use libc::STDERR_FILENO;
 use libc::STDIN_FILENO;
 use libc::STDOUT_FILENO;
 use stream::splitting;
@@ -31,11 +32,23 @@ fn read(bytes: &mut [u8; INPUT]) -> isize {
     libc::read(STDIN_FILENO, bytes)
 }
 
+// Writes to standard output. Where that fails it says so on standard error: the kit has no exit status that could.
+fn print(reply: &[u8]) -> bool {
+    if io::write_all(STDOUT_FILENO, reply) {
+        return true;
+    }
+    io::write_all(
+        STDERR_FILENO,
+        b"junction: a reply could not be written, and no further line is answered\n",
+    );
+    false
+}
+
 // Writes the first n characters of `reply`, which a step on a part prints, to standard output, and does nothing else. Part and block stand here for the contract alone.
 fn print_step(part: &[u8], block: &[i64; Block::LENGTH], reply: &[u8], n: usize) -> bool
     requires { ⌜ (n ≤ length (now reply)) × StepPrints (now part) (now block) (take n (now reply)) ⌝ }
 {
-    io::write_all(STDOUT_FILENO, &reply[..n])
+    print(&reply[..n])
 }
 
 // The same at the end of the input, where `kept` characters of the last line are kept.
@@ -48,7 +61,7 @@ fn print_end(
 ) -> bool
     requires { ⌜ (n ≤ length (now reply)) × EndPrints (take kept (now line)) (now block) (take n (now reply)) ⌝ }
 {
-    io::write_all(STDOUT_FILENO, &reply[..n])
+    print(&reply[..n])
 }
 
 // Answers the lines that end in the first n bytes, each with one write. It goes on unless a write fails.
