@@ -1,4 +1,6 @@
 // Document 01, 'Problem and units', 'The published bound': the one number that planners read, of a lent block.
+#![tactic(auto)]
+
 ghost use Rattle.std.specs.Prelude.{◌≡◌};
 ghost use Rattle.tables.specs.WellFormed.{Study};
 ghost use Rattle.bounds.specs.Bounds.{bound_of};

@@ -10,7 +10,7 @@ use tables::block::Block;
 use tables::{block, places};
 
 // What an accepted certificate shows.
-#[derive(Drop)]
+#[derive(Clone, Copy)]
 pub struct Ceiling {
     // E = W × c0.
     pub reached: bool,
@@ -18,7 +18,7 @@ pub struct Ceiling {
     pub weighted: u64,
 }
 
-#[derive(Drop)]
+#[derive(Clone, Copy)]
 pub enum Certificate {
     // The weights' sums disagree.
     Unbalanced,
@@ -28,7 +28,7 @@ pub enum Certificate {
 }
 
 // What the weights of all trains, or of all pairs, come to.
-#[derive(Drop)]
+#[derive(Clone, Copy)]
 enum Judged {
     // Their sums disagree.
     Disagree,

@@ -1,2 +1,4 @@
 // Certificates: weights whose sums agree, and the ceiling that they set to every rewriting of the tables.
+#![tactic(auto)]
+
 pub mod certify;

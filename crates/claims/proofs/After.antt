@@ -117,18 +117,18 @@ called (inr k) l buffer = called_good (good_call k l buffer)
 pub after_from : {g : Ledger} {b : List ℤ} → State g b → (cs : List Call) → State (ledger_of g (exchanges b cs)) (last_block b cs)
 unfolding exchanges ledger_of last_block
 after_from s [] = s
-after_from s (c ∷ cs) = after_from (called s c.line c.buffer).state cs
+after_from {g = g} {b = b} s (c ∷ cs) = after_from {g = fed (exchange c.line (answer c.line b c.buffer).reply) g} (called s c.line c.buffer).state cs
 
 pub kept_from : {g : Ledger} {b : List ℤ} → Keeps g b → (cs : List Call) → Keeps (ledger_of g (exchanges b cs)) (last_block b cs)
 unfolding exchanges ledger_of last_block
 kept_from k [] = k
-kept_from k (c ∷ cs) = kept_from (good_call k c.line c.buffer).keeps cs
+kept_from {g = g} {b = b} k (c ∷ cs) = kept_from {g = fed (exchange c.line (answer c.line b c.buffer).reply) g} (good_call k c.line c.buffer).keeps cs
 
 -- an accepted load among them leaves block and ledger together
 pub loaded_from : {g : Ledger} {b : List ℤ} → State g b → (cs : List Call) → has_load (exchanges b cs) ≡ true → Keeps (ledger_of g (exchanges b cs)) (last_block b cs)
 unfolding exchanges ledger_of last_block has_load
 loaded_from s [] y = absurd (not_both y refl)
-loaded_from {g} {b} s (c ∷ cs) y = go (accepted a.reply && by_kind loads false c.line) refl y (loaded_from w.state cs)
+loaded_from {g = g} {b = b} s (c ∷ cs) y = go (accepted a.reply && by_kind loads false c.line) refl y (loaded_from {g = fed (exchange c.line (answer c.line b c.buffer).reply) g} w.state cs)
   where
     a : Answer
     a = answer c.line b c.buffer
@@ -145,7 +145,7 @@ loaded_from {g} {b} s (c ∷ cs) y = go (accepted a.reply && by_kind loads false
 pub each_from : {g : Ledger} {b : List ℤ} → State g b → (cs : List Call) → EachCall g (blocks b cs) (exchanges b cs)
 unfolding EachCall blocks exchanges
 each_from s [] = tt
-each_from s (c ∷ cs) = let w = called s c.line c.buffer in (w.call, each_from w.state cs)
+each_from {g = g} {b = b} s (c ∷ cs) = let w = called s c.line c.buffer in (w.call, each_from {g = fed (exchange c.line (answer c.line b c.buffer).reply) g} w.state cs)
 
 -- ---- lists of calls, from the fresh block
 

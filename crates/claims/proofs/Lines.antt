@@ -27,7 +27,7 @@ use Rattle.lines.specs.Layout.{kind_of}
 use Rattle.search.specs.declared.answer.Found.{Found}
 use Rattle.replies.specs.Replies.{refusal_reply, figure_width, choice_width, flag, bound_reply, certify_reply, shown_cost, shown_choice, search_reply}
 use Rattle.replies.specs.Shown.{kind_shown, says_ended, says_ended_without, cost_shown, plan_shown, shows_plan}
-use Rattle.replies.proofs.ReadBack.{refusal_number_lem, constant-shown, bound_shown, certify_flag, certify_weighted, certify_full_weight_lem, search_ended, search_without, search_cost, search_plan}
+use Rattle.replies.proofs.ReadBack.{refusal_number_lem, constant-shown, bound_shown_lem, certify_flag, certify_weighted, certify_full_weight_lem, search_ended, search_without, search_cost, search_plan}
 use Rattle.service.specs.Calls.{exchange}
 use Rattle.claims.specs.Ledger.{Ledger, accepted, by_kind, cost_of}
 use Rattle.claims.specs.Claims.{PlanOf, DeclinedAs, outside, malformed, scaled_cost, start_costs, BoundClaim, CeilingClaim, SearchClaim, RoundClaim, Claim, shown_kind, never_outside, AtCall}
@@ -65,13 +65,13 @@ empty_shows n d = omega (arith, d.0)
 -- 81 to 84, and 88
 pub bound_claim : (g : Ledger) (l : List ℕ) (kind : Kind) (b : List ℤ) → bound_of b < 256 ^ figure_width → ((x : ℕ → ℕ) → PlanOf g x → bound_of b ≤ cost_of g x)
     → BoundClaim g (exchange l (bound_reply kind b))
-bound_claim g l kind b h low = record { bound = λ x p. rw (bound_shown kind b h) (low x p) }
+bound_claim g l kind b h low = record { bound = λ x p. rw (bound_shown_lem kind b h) (low x p) }
 
 -- 88
 pub round_claim : (g : Ledger) (l : List ℕ) (kind : Kind) (b : List ℤ) → constant b < 256 ^ figure_width → bound_of b < 256 ^ figure_width
     → (Open g.shape → Branches g.shape → (constant b ≡ g.scale * bound_of b) × LeastOf g.shape (cost_of g) (bound_of b)) → BoundClaim g (exchange l (bound_reply kind b))
     → RoundClaim g (exchange l (bound_reply kind b))
-round_claim g l kind b c h settled bound = record { bound = bound; settled = λ o one. rw (constant-shown kind b c, bound_shown kind b h) (settled o one) }
+round_claim g l kind b c h settled bound = record { bound = bound; settled = λ o one. rw (constant-shown kind b c, bound_shown_lem kind b h) (settled o one) }
 
 -- 85
 pub ceiling_claim : (g : Ledger) (b : List ℤ) (l : List ℕ) (full_weight : ℕ) (c : Ceiling) → 0 < full_weight → full_weight < 256 ^ 3 → c.weighted < 256 ^ 8

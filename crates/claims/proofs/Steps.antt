@@ -168,7 +168,7 @@ outcome_of l = clauses_outcome (load_trains l) (load_scale l) (clauses_of l)
 pub good_clauses : (g : Ledger) (l : List ℕ) (b : List ℤ) → new_kind (kind_of l) ≡ Known kind.Clauses → clauses_verdict l ≡ Fine → outcome_of l ≡ Fine → Good g b l (clauses_answer l b Fine)
 good_clauses g l b e v fine =
     let r = clauses_in_limits l v in
-    good_bound g b l kind.Clauses (loaded_block (clause_numbers_of l)) e refl (λ c. record { bound_shown = c; weights = clauses-total r fine }) (load_keeps (clause_numbers_of l) (clauses_in_range r fine))
+    good_bound g b l kind.Clauses (loaded_block (clause_numbers_of l)) e refl (λ c. record { bound_shown_lem = c; weights = clauses-total r fine }) (load_keeps (clause_numbers_of l) (clauses_in_range r fine))
 
 -- it is declined with 20 or 10 only
 pub clauses_allowed : (g : Ledger) (l : List ℕ) (r : Refusal) → new_kind (kind_of l) ≡ Known kind.Clauses → outcome_of l ≡ Declined r → Allowed g l r

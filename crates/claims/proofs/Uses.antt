@@ -301,7 +301,7 @@ module _ {b : List ℤ} where
 
   high_clauses : AtLine j b (told "09" "89000000000000000000000003") → ⊥
   unfolding told
-  high_clauses a = too_high (line_claim a Clauses refl).bound_shown refl
+  high_clauses a = too_high (line_claim a Clauses refl).bound_shown_lem refl
 
   -- plan 01 fails no clause of this line, and costs 2
   other_weights : AtLine j b (told one_clause "89000000000000000000000000") → ⊥

@@ -112,7 +112,7 @@ pub record RoundClaim (g : Ledger) (e : Exchange) : Type 0 where
 -- document 02, change 7: 'The reply is 89 as for a load'
 pub record ClausesClaim (g : Ledger) (e : Exchange) : Type 0 where
   -- its bound is one 'that a reply shows beside c0' (`high-clauses`)
-  pub bound_shown : BoundClaim g e
+  pub bound_shown_lem : BoundClaim g e
   -- 'Each plan's total in H must be the weights of the clauses it fails', by the literals of the line (`other-weights`)
   pub weights : (x : ℕ → ℕ) → PlanOf g x → cost_of g x ≡ failed_weight (clauses_of e.line) x
 

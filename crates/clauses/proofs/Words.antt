@@ -34,7 +34,7 @@ above (negsuc n) e = let h : ◌≡◌ {A = ℕ} 0 1 = cc in absurd (omega arith
 
 module _ (z : ℤ) (h : nat_abs z ≤ max_trains) where
   back : to_z w64 (of_z w64 z) ≡ z
-  back = to_z-of_z (sfits_of (small z h))
+  back = to_z-of_z {w = w64} (sfits_of (small z h))
 
   less : pos 0 -ℤ to_z w64 (of_z w64 z) ≡ neg_ℤ z
   less = ap (λ (y : ℤ). pos 0 -ℤ y) back ∙ +ℤ_idl (neg_ℤ z)

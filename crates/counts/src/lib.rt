@@ -1,4 +1,6 @@
 // Document 01, 'Lines': how many numbers a held study asks for that go through all its trains or all its pairs.
+#![tactic(auto)]
+
 ghost use Rattle.std.specs.Prelude.{◌≡◌, ◌<◌, ◌≤◌};
 ghost use Rattle.tables.specs.Block.{trains, pairs};
 ghost use Rattle.tables.specs.WellFormed.{Study};

@@ -1,4 +1,6 @@
 // The pairs of a load and the clauses of a study, written into lent slices: what a caller stores.
+#![tactic(auto)]
+
 ghost use Rattle.std.specs.Prelude.{◌≡◌, true, ◌+◌, ◌*◌, ◌<◌, ◌≤◌, length, set};
 ghost use Rattle.std.proofs.Math.Seq.{paste};
 ghost use Rattle.theory.specs.Lists.{list_of};

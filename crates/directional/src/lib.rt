@@ -1,4 +1,6 @@
 // Document 02, change 4: the directional round.
+#![tactic(auto)]
+
 ghost use Rattle.std.specs.Prelude.{◌≡◌, ◌<◌, ◌^◌, length};
 ghost use Rattle.tables.specs.Block.{block_length, max_trains, max_choices, trains, pairs, size, second};
 ghost use Rattle.tables.specs.WellFormed.{Study};

@@ -97,4 +97,4 @@ signed_mag w v h =
     (λ (q : 2 * v < 256 ^ w → ⊥). rw (signed_high w v (omega (arith, q)) h) (omega (arith, neg_mag (256 ^ w - v))))
 
 pub signed_back : (w v : ℕ) → w ≤ max_width → v < 256 ^ w → to_z w64 (of_z w64 (signed w v)) ≡ signed w v
-signed_back w v q h = to_z-of_z (sfits_of (omega (arith, signed_mag w v h, power_fits w q)))
+signed_back w v q h = to_z-of_z {w = w64} (sfits_of (omega (arith, signed_mag w v h, power_fits w q)))

@@ -5,13 +5,13 @@ ghost use Rattle.frames.specs.Frames.{all_digits, new_frame};
 use crate::digits;
 
 // A line of whole bytes.
-#[derive(Drop)]
+#[derive(Clone, Copy)]
 pub struct Frame {
     bytes: usize,
 }
 
 // What the constructor of a frame answers.
-#[derive(Drop)]
+#[derive(Clone, Copy)]
 pub enum NewFrame {
     Within(Frame),
     // More characters than a frame has.

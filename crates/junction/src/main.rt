@@ -1,10 +1,12 @@
 // The program: reads standard input, starts fresh, and prints a reply line for each input line as soon as the line is complete.
+#![tactic(auto)]
+
 ghost use Rattle.std.specs.Prelude.{◌≡◌, true, ◌≤◌, pos, length, take};
 ghost use Rattle.io.specs.Counts.{clamp_len};
 ghost use Rattle.stream.specs.Parts.{over_part, last_answer};
 ghost use Rattle.stream.specs.Steps.{Leaves, AfterParts, StepPrints, EndPrints};
 
-use libc::{STDERR_FILENO, STDIN_FILENO, STDOUT_FILENO};
+use std::io::Read;
 use stream::splitting;
 use stream::splitting::{KEPT, REPLY};
 use tables::block::Block;
@@ -15,25 +17,33 @@ const READS: u64 = 9223372036854775808;
 // How many bytes a read asks for.
 const INPUT: usize = 65536;
 
+// The files that `print` writes to.
+const STDOUT: i32 = 1;
+
+const STDERR: i32 = 2;
+
 // How many characters of a line are kept, and whether to go on.
-#[derive(Drop)]
+#[derive(Clone, Copy)]
 struct Kept {
     length: usize,
     on: bool,
 }
 
 // Reads from standard input, and does nothing else: the bytes go to the front of the array, and it answers how many, 0 at the end of the input, below 0 where the read fails.
-fn read(bytes: &mut [u8; INPUT]) -> isize {
-    libc::read(STDIN_FILENO, bytes)
+fn read(rt: &HostRuntime, bytes: &mut [u8; INPUT]) -> isize {
+    match rt.stdin().read(bytes) {
+        Ok(n) => n as isize,
+        Err(_) => -1,
+    }
 }
 
-// Writes to standard output. Where that fails it says so on standard error: the kit has no exit status that could.
+// Writes to standard output. Where that fails it says so on standard error.
 fn print(reply: &[u8]) -> bool {
-    if io::write_all(STDOUT_FILENO, reply) {
+    if io::write_all(STDOUT, reply) {
         return true;
     }
     io::write_all(
-        STDERR_FILENO,
+        STDERR,
         b"junction: a reply could not be written, and no further line is answered\n",
     );
     false
@@ -137,7 +147,7 @@ fn answer_read(
     answer_part(bytes, n, line, kept, block, reply)
 }
 
-fn main() {
+fn main(rt: HostRuntime) {
     let mut bytes = [0u8; INPUT];
     let mut line = [0u8; KEPT];
     let mut block = [0i64; Block::LENGTH];
@@ -145,7 +155,7 @@ fn main() {
     let mut length = 0;
     let mut reads = READS;
     while 0 < reads {
-        let got = read(&mut bytes);
+        let got = read(&rt, &mut bytes);
         let kept = answer_read(got, &bytes, &mut line, length, &mut block, &mut reply);
         if !kept.on {
             return;

@@ -1,4 +1,6 @@
 // Document 01, 'Lines' and 'What is declined': the fields of each kind, judged, and the request that they make.
+#![tactic(auto)]
+
 ghost use Rattle.std.specs.Prelude.{◌≡◌, true};
 ghost use Rattle.tables.specs.WellFormed.{Study};
 ghost use Rattle.frames.specs.Frames.{Framed};

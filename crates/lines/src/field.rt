@@ -7,7 +7,7 @@ use frames::fields;
 use refusals::Refusal;
 
 // What a field's number must be.
-#[derive(Drop)]
+#[derive(Clone, Copy)]
 pub enum Rule {
     Any,
     Between(u64, u64),
@@ -18,7 +18,7 @@ pub enum Rule {
 }
 
 // A field of a line: the byte where it begins, how many bytes it has, what its number must be, and why the line is declined where it is not.
-#[derive(Drop)]
+#[derive(Clone, Copy)]
 pub struct Field {
     pub at: usize,
     pub width: usize,

@@ -2,7 +2,7 @@
 ghost use Rattle.std.specs.Prelude.{◌≡◌};
 ghost use Rattle.lines.specs.Kinds.{kind_number, new_kind, needs_study};
 
-#[derive(Drop)]
+#[derive(Clone, Copy)]
 pub enum Kind {
     Load,
     Add,
@@ -16,7 +16,7 @@ pub enum Kind {
 }
 
 // What the constructor of a kind answers.
-#[derive(Drop)]
+#[derive(Clone, Copy)]
 pub enum NewKind {
     Known(Kind),
     // There is no kind of this number.

@@ -5,13 +5,13 @@ use tables::block::Block;
 use units::{Points, Scale};
 
 // A run of fields of equal width: the byte where it begins, and how many there are.
-#[derive(Drop)]
+#[derive(Clone, Copy)]
 pub struct FieldRun {
     pub at: usize,
     pub count: usize,
 }
 
-#[derive(Drop)]
+#[derive(Clone, Copy)]
 pub struct Load {
     pub scale: Scale,
     pub sizes: FieldRun,
@@ -33,14 +33,14 @@ impl Load {
     pub const ENTRIES: usize = Block::PAIRS * Block::ENTRIES;
 }
 
-#[derive(Drop)]
+#[derive(Clone, Copy)]
 pub struct Add {
     pub train: usize,
     pub choice: usize,
     pub points: Points,
 }
 
-#[derive(Drop)]
+#[derive(Clone, Copy)]
 pub struct Shift {
     pub lifts: FieldRun,
     pub moves: FieldRun,
@@ -51,7 +51,7 @@ impl Shift {
     pub const MOVE_WIDTH: usize = 6;
 }
 
-#[derive(Drop)]
+#[derive(Clone, Copy)]
 pub struct Certify {
     // W.
     pub full: u64,
@@ -63,13 +63,13 @@ impl Certify {
     pub const WEIGHT_WIDTH: usize = 3;
 }
 
-#[derive(Drop)]
+#[derive(Clone, Copy)]
 pub struct Search {
     pub budget: u64,
 }
 
 // A study written as clauses.
-#[derive(Drop)]
+#[derive(Clone, Copy)]
 pub struct Clauses {
     pub trains: usize,
     pub scale: Scale,
@@ -88,7 +88,7 @@ impl Clauses {
     pub const MOST: usize = 500;
 }
 
-#[derive(Drop)]
+#[derive(Clone, Copy)]
 pub enum Request {
     Load(Load),
     Add(Add),
@@ -101,7 +101,7 @@ pub enum Request {
     Clauses(Clauses),
 }
 
-#[derive(Drop)]
+#[derive(Clone, Copy)]
 pub enum Line {
     Asked(Request),
     Refused(Refusal),

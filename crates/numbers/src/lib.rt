@@ -1,4 +1,6 @@
 // Document 02, change 1: the numbers of the study that a block holds, written into lent slices: what loads that study.
+#![tactic(auto)]
+
 ghost use Rattle.std.specs.Prelude.{◌≡◌, ◌+◌, ◌*◌, ◌<◌, ◌≤◌, length};
 ghost use Rattle.std.proofs.Math.Seq.{paste};
 ghost use Rattle.theory.specs.Lists.{list_of, joined};

@@ -1,4 +1,6 @@
 // The operations that change the totals of a study's plans, each on a lent block: a declined one leaves the block as it was.
+#![tactic(auto)]
+
 pub mod add;
 mod held;
 pub mod load;

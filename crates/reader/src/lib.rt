@@ -1,4 +1,6 @@
 // Document 01, 'Lines' and 'What is declined': from a line and a well-formed block to what the line asks, or the first reason to decline it.
+#![tactic(auto)]
+
 ghost use Rattle.std.specs.Prelude.{◌≡◌, true, ◌&&◌};
 ghost use Rattle.tables.specs.WellFormed.{is_fresh, well_formed};
 ghost use Rattle.frames.specs.Frames.{Framed};

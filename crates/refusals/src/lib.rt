@@ -1,10 +1,11 @@
 // Document 01, 'What is declined', and document 02, changes 5 and 7: the reasons, with their numbers, and verdicts on a line, a field or an operation.
 #![tactic(auto)]
+
 ghost use Rattle.std.specs.Prelude.{◌≡◌};
 ghost use Rattle.refusals.specs.Refusals.{refusal_number};
 ghost use Rattle.refusals.specs.Verdicts.{is_fine};
 
-#[derive(Drop)]
+#[derive(Clone, Copy)]
 pub enum Refusal {
     // Empty, an odd count, or another character.
     Characters,
@@ -73,7 +74,7 @@ pub fn number(r: Refusal) -> u8
 }
 
 // Whether what was judged is fine, or the first reason to decline it.
-#[derive(Drop)]
+#[derive(Clone, Copy)]
 pub enum Verdict {
     Fine,
     Declined(Refusal),

@@ -83,9 +83,9 @@ module _ (kind : Kind) (b : List ℤ) where
   unfolding bound_reply
   constant-shown h = fields_shown bound_widths (bound_numbers kind b) [] refl 1 (omega arith) h
 
-  pub bound_shown : bound_of b < 256 ^ figure_width → bound_shown (bound_reply kind b) ≡ bound_of b
+  pub bound_shown_lem : bound_of b < 256 ^ figure_width → bound_shown (bound_reply kind b) ≡ bound_of b
   unfolding bound_reply
-  bound_shown h = fields_shown bound_widths (bound_numbers kind b) [] refl 2 (omega arith) h
+  bound_shown_lem h = fields_shown bound_widths (bound_numbers kind b) [] refl 2 (omega arith) h
 
 -- ---- 85
 

@@ -1,4 +1,6 @@
 // A line on a well-formed block: what it asks is carried out, and answered into the room that there is. A module for each kind.
+#![tactic(auto)]
+
 mod add_line;
 mod certify_line;
 mod clauses_line;

@@ -35,7 +35,7 @@ mag_neg (negsuc n) = omega arith
 
 -- a number that fits is read back as it was stored
 pub back : (z : ℤ) → mag z < 2 ^ 63 → to_z w64 (of_z w64 z) ≡ z
-back z h = to_z-of_z (sfits_of h)
+back z h = to_z-of_z {w = w64} (sfits_of h)
 
 module _ (x y : ℤ) (p : mag x ≤ 2 ^ 61) (q : mag y ≤ 2 ^ 61) where
   small : mag (x +ℤ y) < 2 ^ 63

@@ -11,7 +11,7 @@ use tables::places;
 use units::Parts;
 
 // The least of the figures met so far, if there is one; else 0.
-#[derive(Drop)]
+#[derive(Clone, Copy)]
 pub struct Found {
     pub found: bool,
     pub least: Parts,

@@ -7,14 +7,14 @@ use tables::block;
 use tables::block::Block;
 
 // The lanes of a pair's table: its rows, each of which has a choice of the first train, and its columns, each of which has one of the second.
-#[derive(Drop)]
+#[derive(Clone, Copy)]
 pub enum Side {
     Rows,
     Columns,
 }
 
 // `count` places, `step` apart, from `from` on, and the place that their costs go to.
-#[derive(Drop)]
+#[derive(Clone, Copy)]
 pub struct PlaceRun {
     pub from: usize,
     pub step: usize,

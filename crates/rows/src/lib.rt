@@ -1,4 +1,6 @@
 // What the choices of later trains come to, in rows of sums, and the table of a study that they are summed from.
+#![tactic(auto)]
+
 mod links;
 pub mod sums;
 pub mod table;

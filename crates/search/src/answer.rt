@@ -14,7 +14,7 @@ use tables::block::Block;
 use units::{Parts, Points, Scale};
 
 // What a search answers: whether the walk ended or was spent, its tries, and the best plan where one was found, with its total and its cost.
-#[derive(Drop)]
+#[derive(Clone, Copy)]
 pub struct Found {
     pub ended: bool,
     pub count: u64,

@@ -17,7 +17,7 @@ const TO_BEAT: usize = 0;
 const LEFT_THEN: usize = 1;
 
 // What a walk comes to: the tries counted, whether the budget ran out, whether the best plan met the bound, and the best plan with its total.
-#[derive(Drop)]
+#[derive(Clone, Copy)]
 pub struct Walk {
     pub count: u64,
     pub spent: bool,

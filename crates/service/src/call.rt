@@ -34,11 +34,3 @@ pub fn answer<'a>(line: &[u8], block: &mut [i64], reply: &'a mut [u8]) -> &'a mu
     let n = respond(line, block, reply);
     &mut reply[..n]
 }
-
-// The call under its plain name, for programs in other languages.
-#[unsafe(no_mangle)]
-pub extern "C" fn junction_answer(line: &[u8], block: &mut [i64], reply: &mut [u8]) -> usize
-    ensures { Answers (answer line.now block.old reply.old) reply.old block.new reply.new result }
-{
-    respond(line, block, reply)
-}

@@ -1,4 +1,6 @@
 // Document 01, '03 shift': lifts and moves together, in parts. Only the end is judged.
+#![tactic(auto)]
+
 ghost use Rattle.std.specs.Prelude.{◌≡◌, ◌+◌, ◌<◌, ◌≤◌, ◌^◌, length};
 ghost use Rattle.tables.specs.Block.{max_parts, trains, pairs, size};
 ghost use Rattle.tables.specs.WellFormed.{Study};

@@ -17,7 +17,7 @@ pub const KEPT: usize = Frame::CHARACTERS + 1;
 pub const REPLY: usize = Frame::CHARACTERS + 1;
 
 // What a step came to: how many bytes of the part it took, how many characters of the line are kept, and how many bytes are to be printed.
-#[derive(Drop)]
+#[derive(Clone, Copy)]
 pub struct Step {
     pub used: usize,
     pub kept: usize,

@@ -1,12 +1,12 @@
 -- What a cost is worth: that of a forbidden entry is −1 in both tables and 0 in every sum; any other stands as it is.
-use mathlib.Core.Path.{◌≡◌, refl, ap}
+use mathlib.Core.Path.{◌≡◌, refl}
 use mathlib.Core.Bool.{Bool, true, false, cond, not, ◌||◌}
 use Prim.Native.Nat.{ℕ, ◌*◌, ◌≤◌}
 use native.Mathlib.Nat.{mul-zero}
 use native.Mathlib.Omega.{arith}
 use borrow.Author.Tests.{leb-true, eqb-true, eq-eqb, ne_eqb}
 use lib.Dec.{leb, eqb}
-use lib.IntN.{ℤ, pos, negsuc}
+use lib.IntN.{pos, negsuc}
 use Rattle.tables.specs.Block.{max_cost, nat}
 use Rattle.tables.specs.WellFormed.{cost_to, within, is_open, mate}
 use Rattle.tables.specs.Numbers.{forbidden_cost, is_cost, permits, priced, paid}

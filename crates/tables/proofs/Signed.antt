@@ -71,7 +71,7 @@ or_none a b = bool_ext (eqb (bit_or a b) 0) (eqb a 0 && eqb b 0) both joined
 
 module _ (z : ℤ) (g : mag z < 2 ^ 63) where
   back : to_z w64 (of_z w64 z) ≡ z
-  back = to_z-of_z (sfits_of g)
+  back = to_z-of_z {w = w64} (sfits_of g)
 
   -- the bits of a number are 0 where it is 0
   bits_none : eqb (of_z w64 z) 0 ≡ within (from_to 0 0) z

@@ -16,7 +16,7 @@ use Rattle.units.specs.Units.{scale_min, scale_max}
 use Rattle.tables.specs.declared.block.Block.{Block}
 use Rattle.tables.specs.declared.well_formed.NewBlock.TheVariants.{Within as Within-block, Outside as outside-block}
 use Rattle.tables.specs.Block.{block_length, max_trains, max_choices, max_pairs, max_cost, max_parts, trains_place, constant_place, size_place, first_place, second_place, entries_of_pair, loaded_choices_from, held_choices_from, loaded_entries_from, held_entries_from, loaded_choice_place, held_choice_place, loaded_entry_place, held_entry_place, at, nat, figure, trains, scale, pairs, constant, size, first, second, held_choice, held_entry}
-use Rattle.tables.specs.WellFormed.{Limits, from_to, cost_to, within, is_open, mate, mated, used_if, choice_used, entry_used, head_limits, limits_at, places_right, before, follows, pair_right, pairs_right, is_zero, is_fresh, holds_study, well_formed, new_block, Study}
+use Rattle.tables.specs.WellFormed.{Limits, from_to, cost_to, within, is_open, mated, used_if, choice_used, entry_used, head_limits, limits_at, places_right, before, follows, pair_right, pairs_right, is_zero, is_fresh, holds_study, well_formed, new_block, Study}
 use Rattle.tables.proofs.Mates.{mated-mates, mates-mated, mate_open, mate_same}
 use Rattle.tables.proofs.Limits.{Within, within-figure, within_pos, within-closed, choice_used_lem, entry_used_lem, limits_head, limits-size, limits-first, limits-second, limits_loaded_choices, limits-held_choices, limits_loaded_entries, limits-held_entries, shape_limits_lem, shape_closable}
 

@@ -8,7 +8,7 @@ use crate::places;
 use units::{Parts, Points, Scale};
 
 // A well-formed block. Its numbers are lent, as a slice; this type carries the limits, the layout, and whether all numbers are 0.
-#[derive(Drop)]
+#[derive(Clone, Copy)]
 pub struct Block {
     fresh: bool,
 }

@@ -1,4 +1,6 @@
 // The tables of a study and their rules, on numbers only: the state block, and when a block is well formed.
+#![tactic(auto)]
+
 pub mod block;
 pub mod places;
 pub mod well_formed;

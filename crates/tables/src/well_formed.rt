@@ -9,7 +9,7 @@ use crate::{block, places};
 use units::Scale;
 
 // What the constructor of a block answers.
-#[derive(Drop)]
+#[derive(Clone, Copy)]
 pub enum NewBlock {
     Within(Block),
     Outside,

@@ -1,4 +1,6 @@
 // Document 01, '04 tighten'.
+#![tactic(auto)]
+
 ghost use Rattle.std.specs.Prelude.{◌≡◌, ◌<◌, ◌^◌};
 ghost use Rattle.tables.specs.Block.{max_parts, pairs};
 ghost use Rattle.tables.specs.WellFormed.{Study};

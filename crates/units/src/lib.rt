@@ -1,18 +1,19 @@
 // Document 01, 'Problem and units': loaded costs are in points, held costs in parts, and only a scale converts one to the other.
 #![tactic(auto)]
+
 ghost use Rattle.std.specs.Prelude.{◌≡◌, ◌+◌, ◌≤◌, ◌<◌, ◌^◌, leb};
 ghost use Rattle.units.specs.Units.{Sound, new_scale, scale_min, scale_max, in_parts, published};
 
 // A figure in points. Its number is private to this crate: no sum, comparison or rule takes a figure in parts in its place.
-#[derive(Drop)]
+#[derive(Clone, Copy)]
 pub struct Points(u64);
 
 // A figure in parts. Its number is private likewise.
-#[derive(Drop)]
+#[derive(Clone, Copy)]
 pub struct Parts(u64);
 
 // How many parts make one point.
-#[derive(Drop)]
+#[derive(Clone, Copy)]
 pub struct Scale(u64);
 
 impl Points {
@@ -86,7 +87,7 @@ impl Parts {
 }
 
 // What the constructor of a scale answers.
-#[derive(Drop)]
+#[derive(Clone, Copy)]
 pub enum NewScale {
     Within(Scale),
     Outside,

@@ -1,0 +1,12 @@
+-- Once the line was judged fine, its request is made.
+use mathlib.Core.Path.{sym, ◌∙◌}
+use Rattle.kinds.proofs.clause_fields.read_clauses.Goals as goal
+
+pub asked-requires : goal.asked-requires
+asked-requires c = (c.requires, sym c.clauses_verdict.ensures ∙ c.in-Fine.is)
+
+pub returns-in-Declined : goal.returns-in-Declined
+returns-in-Declined c = rw (← c.clauses_verdict.ensures, c.in-Declined.is)
+
+pub returns-in-Fine : goal.returns-in-Fine
+returns-in-Fine c = rw (← c.clauses_verdict.ensures, c.in-Fine.is, c.asked.ensures)

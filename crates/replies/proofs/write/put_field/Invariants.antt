@@ -1,0 +1,9 @@
+-- The invariant: w bytes are still to be written, of the number `rest`; the bytes behind them stand, and the characters before them are as they were.
+use Rattle.replies.proofs.Writing.{Still}
+use Rattle.replies.proofs.write.put_field.Given as goal
+
+abbrev pub invariant-loop-w : goal.invariant-loop-w
+invariant-loop-w l = Still l.initial.reply l.at l.width l.v l.reply l.rest l.w
+
+abbrev pub decreases-loop-w : goal.decreases-loop-w
+decreases-loop-w l = l.w

@@ -1,0 +1,15 @@
+-- Each turn makes the moves of one pair, a chain of at most 16, and the start goes on by as many as it took.
+use mathlib.Core.Path.{◌≡◌}
+use Prim.Native.Nat.{◌-◌, ◌≤◌}
+use lib.ListN.{length}
+use Rattle.theory.specs.Fold.{iter}
+use Rattle.tables.specs.Plans.{shape_of}
+use Rattle.tables.specs.Counts.{moves_before}
+use Rattle.shift.specs.Shift.{pair_shifted}
+use Rattle.shift.proofs.shift_pairs.Given as goal
+
+abbrev pub invariant-loop-k : goal.invariant-loop-k
+invariant-loop-k l = (l.k ≤ l.m) × (length l.b ≡ length l.initial.b) × (l.start ≡ moves_before (shape_of l.initial.b) l.k) × (l.b ≡ iter l.k (λ k. pair_shifted l.moves (moves_before (shape_of l.initial.b) k) k) l.initial.b)
+
+abbrev pub decreases-loop-k : goal.decreases-loop-k
+decreases-loop-k l = l.m - l.k
