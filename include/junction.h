@@ -1,6 +1,6 @@
 /* The junction bound service, for C and C++: one call that answers one line on a lent block.
  *
- * Document 01 decides what a line, a block and a reply are. `rt staticlib service` makes the library, target/staticlib/libservice.a, for x86-64. */
+ * Document 01 decides what a line, a block and a reply are. `./staticlib` makes the library, target/staticlib/libservice.a, for x86-64. */
 #ifndef JUNCTION_H
 #define JUNCTION_H
 

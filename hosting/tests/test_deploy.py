@@ -136,7 +136,7 @@ class Installing(unittest.TestCase):
     def test_says_what_is_missing_and_how_it_is_built(self) -> None:
         self.checkout.program.unlink()
         self.checkout.library.unlink()
-        self.assert_refused(1, "no target/junction: './serve </dev/null' makes it", "no target/host/libjunction.so: 'rt staticlib service' and then 'hosting/build' makes it")
+        self.assert_refused(1, "no target/junction: './serve </dev/null' makes it", "no target/host/libjunction.so: './staticlib' and then 'hosting/build' makes it")
         self.assertFalse(self.prefix.exists())
 
     def test_refuses_other_arguments(self) -> None:

@@ -8,20 +8,21 @@ import unittest
 from pathlib import Path
 
 ROOT = Path(__file__).resolve().parents[2]
-TOOLS = "awk bash cat chmod cp cut dirname env find flock ln mkdir mktemp mv readlink rm sh sha256sum sleep sort xargs".split()
+TOOLS = "awk bash cat chmod cmp cp cut dirname env find flock ln mkdir mktemp mv readlink rm sh sha256sum sleep sort xargs".split()
 SECONDS = 60
 
-# 'Proves' the program: notes the build, and makes a program that says the version of its source before each line.
+# 'Proves' the program: notes the build, makes a program that says the version of its source before each line, and runs it.
 PROVER = """#!/bin/sh
 set -eu
-[ "$1 $2" = "check junction" ]
+[ "$*" = run ]
 echo build >>"$BUILDS"
-mkdir -p target/bin target/log
-: >target/log/junction.out
-version=$(cat crates/junction/src/main.rt)
-[ "$version" != wrong ] || { echo "not proved: wrong"; exit 1; }
-printf '#!/bin/sh\\nwhile read -r line; do echo "%s $line"; done\\n' "$version" >target/bin/junction
-chmod +x target/bin/junction
+mkdir -p out
+version=$(cat src/main.rt)
+echo "rt: chose --jobs 2 for junction" >&2
+[ "$version" != wrong ] || { echo "not proved: wrong" >&2; exit 1; }
+printf '#!/bin/sh\\nwhile read -r line; do echo "%s $line"; done\\n' "$version" >out/junction
+chmod +x out/junction
+out/junction
 """
 
 
@@ -108,6 +109,15 @@ class Serve(unittest.TestCase):
         ran = self.serve()
         self.assertEqual((ran.returncode, ran.stdout), (1, ""))
         self.assertIn("not proved: wrong", ran.stderr)
+
+    def test_does_not_run_what_writes_something_else(self) -> None:
+        crate = self.checkout / "crates/junction"
+        (crate / "stdin").write_text("line\n")
+        (crate / "stdout").write_text("two line\n")
+        ran = self.serve()
+        self.assertEqual((ran.returncode, ran.stdout), (1, ""))
+        self.source.write_text("two")
+        self.assert_answers("two", builds=2)
 
     def test_says_that_the_prover_is_missing(self) -> None:
         self.assert_answers("one", builds=1)

@@ -2,7 +2,7 @@
 use Rattle.std.specs.Prelude.{◌≡◌, Bool, cond, ◌&&◌, ◌||◌, List, ℕ, ◌+◌, ◌*◌, ◌^◌, ◌<◌, eqb, ℤ, length, get_or}
 use Rattle.theory.specs.Sum.{sum}
 use Rattle.theory.specs.Range.{all}
-use Rattle.tables.specs.Block.{trains, pairs, constant, size, first, second}
+use Rattle.tables.specs.Block.{constant}
 use Rattle.tables.specs.Plans.{Shape, Costs, shape_of, held_costs}
 use Rattle.tables.specs.Counts.{choice_count, weight_count, choice_index, entry_index}
 use Rattle.certificates.specs.declared.certify.Certificate.{Certificate}

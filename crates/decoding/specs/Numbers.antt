@@ -1,5 +1,5 @@
 -- The numbers of a load line, as lists: what a load stores, and what the ledger keeps.
-use Rattle.std.specs.Prelude.{List, [], ◌++◌, ℕ, zero, suc, ◌+◌}
+use Rattle.std.specs.Prelude.{List, [], ◌++◌, ℕ, zero, suc}
 use Rattle.theory.specs.Lists.{list_of}
 use Rattle.tables.specs.Numbers.{Numbers, numbers}
 use Rattle.lines.specs.Layout.{load_trains, load_scale, load_size, choice_count, load_pairs, entry_count, pair_at, load_first, load_second, numbers_in, choice_field, entry_field}

@@ -7,9 +7,7 @@ use native.Mathlib.Omega.{arith}
 use lib.IntN.{ℤ, pos, negsuc}
 use lib.ListN.{length, set, take, replicate, replicate-append-replicate}
 use lib.Seq.{take-suc-set}
-use Rattle.theory.specs.Fold.{iter}
 use Rattle.theory.specs.Lists.{nth}
-use Rattle.theory.proofs.Fold.{iter-more}
 use Rattle.units.specs.Units.{Sound, the_scale}
 use Rattle.tables.specs.Block.{trains_place, scale_place, pairs_place, size_place, first_place, second_place, loaded_choice_place, held_choice_place, loaded_entry_place, held_entry_place}
 use Rattle.tables.specs.WellFormed.{fresh_block}

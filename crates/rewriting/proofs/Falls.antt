@@ -12,7 +12,7 @@ use lib.IntN.{ℤ, pos, neg_ℤ, ◌+ℤ◌}
 use lib.ListN.{length}
 use borrow.Author.Tests.{le-ltb}
 use Rattle.theory.specs.Fold.{iter}
-use Rattle.tables.specs.Block.{block_length, max_trains, max_choices, held_choices_from, held_entries_from, held_choice_place, loaded_choice_place, constant_place, at, nat, figure, trains, pairs, size, held_choice}
+use Rattle.tables.specs.Block.{block_length, held_choices_from, held_entries_from, held_choice_place, constant_place, at, nat, figure, trains, pairs, size, held_choice}
 use Rattle.tables.specs.Plans.{shape_of}
 use Rattle.tables.proofs.Study.{same_figure, same_size, figure_at}
 use Rattle.rewriting.specs.declared.sides.PlaceRun.{PlaceRun}

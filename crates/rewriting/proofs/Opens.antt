@@ -1,21 +1,20 @@
 -- Which places are open: a held cost where its mate in H is, all of the shape and the constant. H is never met by a move, so what is open stays so; and in a study an open number is natural.
-use mathlib.Core.Path.{◌≡◌, refl, sym, ap, ◌∙◌}
-use mathlib.Core.Bool.{Bool, true, false, cond}
+use mathlib.Core.Path.{◌≡◌, sym, ap, ◌∙◌}
+use mathlib.Core.Bool.{true}
 use mathlib.Core.List.{List}
 use mathlib.Core.Logic.{inl, inr, ⊎_elim, dite}
 use Prim.Native.Nat.{ℕ, ◌+◌, ◌-◌, ◌<◌, ◌≤◌}
 use native.Mathlib.Decide.{dec_lt}
 use native.Mathlib.Omega.{arith}
-use lib.Dec.{ltb}
 use lib.IntN.{ℤ, pos}
 use borrow.Author.Tests.{lt-ltb, le-ltb}
-use Rattle.tables.specs.Block.{block_length, max_trains, max_choices, max_pairs, constant_place, loaded_choices_from, held_choices_from, loaded_entries_from, held_entries_from, loaded_choice_place, held_choice_place, loaded_entry_place, held_entry_place, at, figure}
+use Rattle.tables.specs.Block.{block_length, max_trains, max_choices, constant_place, loaded_choices_from, held_choices_from, loaded_entries_from, held_entries_from, loaded_choice_place, held_choice_place, loaded_entry_place, held_entry_place, at, figure}
 use Rattle.tables.specs.WellFormed.{is_open, Study}
 use Rattle.tables.proofs.Mates.{mate_open}
 use Rattle.tables.proofs.Limits.{open_natural}
 use Rattle.tables.proofs.Study.{shape_natural}
 use Rattle.rewriting.specs.Leasts.{HeldPlace, mate_place, open_place, NonNegative}
-use Rattle.rewriting.proofs.Shape.{Between, Loaded, SameLoaded}
+use Rattle.rewriting.proofs.Shape.{Loaded, SameLoaded}
 
 -- ---- mates
 

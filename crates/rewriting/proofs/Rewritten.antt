@@ -17,7 +17,7 @@ use Rattle.tables.proofs.Study.{holds_study_lem, closed_is, choice_open_lem, ent
 use Rattle.rewriting.specs.Moves.{ShapeInRange}
 use Rattle.rewriting.specs.Ends.{ends_of, Forbidden}
 use Rattle.rewriting.specs.Judged.{kept, judged_block}
-use Rattle.rewriting.proofs.Shape.{study_shape_in_range, study_non_empty, Loaded, SameLoaded, loaded_same, Asked, Moved, moved_loaded}
+use Rattle.rewriting.proofs.Shape.{study_shape_in_range, study_non_empty, SameLoaded, loaded_same, Asked, Moved, moved_loaded}
 use Rattle.rewriting.proofs.Reach.{Unmet, moved_unmet}
 use Rattle.rewriting.proofs.Kept.{kept_open, kept-closed, kept_same, kept_loaded}
 

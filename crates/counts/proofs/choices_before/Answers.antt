@@ -12,10 +12,10 @@ pub loop-j-init : goal.loop-j-init
 loop-j-init c = (omega arith, sym (sum_none _))
 
 pub size-count-requires : goal.size-count-requires
-size-count-requires c =  (c.requires.0.whole, omega (arith, trains_range c.requires.0))
+size-count-requires c = (c.requires.0.whole, omega (arith, trains_range c.requires.0))
 
 pub overflow_add-count : goal.overflow_add-count
-overflow_add-count c = 
+overflow_add-count c =
     let j = c.loop-j.j in
     omega (arith, c.size-count.ensures, sum_more j (size c.args.b.now), choices_most c.requires.0 (j + 1) (omega arith), trains_range c.requires.0)
 

@@ -7,7 +7,7 @@ pub second-requires : goal.second-requires
 second-requires c = (c.requires.0.whole, omega (arith, pairs_range c.requires.0))
 
 pub size-requires : goal.size-requires
-size-requires c =  (c.requires.0.whole, omega (arith, c.second.ensures, second-below-trains c.requires.0 c.args.k c.requires.1, trains_range c.requires.0))
+size-requires c = (c.requires.0.whole, omega (arith, c.second.ensures, second-below-trains c.requires.0 c.args.k c.requires.1, trains_range c.requires.0))
 
 pub returns : goal.returns
 returns c = rw c.second.ensures at c.size.ensures

@@ -23,7 +23,7 @@ more : (c : After-pair_entries-count)
 more c = omega (arith, c.pair_entries-count.ensures, sum_more c.loop-k.k (pair_entries (shape_of c.args.b.now)))
 
 pub overflow_add-count : goal.overflow_add-count
-overflow_add-count c = 
+overflow_add-count c =
     omega (arith, more (goal.at.overflow_add-count c).After-pair_entries-count, entries_most c.requires (c.loop-k.k + 1) (omega arith), pairs_range c.requires)
 
 pub loop-k-preserved : goal.loop-k-preserved

@@ -5,9 +5,9 @@ use Rattle.decoding.proofs.decode_pair.Goals as goal
 
 pub entry_count-count-requires : goal.entry_count-count-requires
 entry_count-count-requires c = record {
-      framed = (c.requires.framed.0, c.requires.framed.1, omega arith);
-      at_bound = c.requires.at_bound;
-    }
+  framed = (c.requires.framed.0, c.requires.framed.1, omega arith);
+  at_bound = c.requires.at_bound;
+}
 
 pub returns : goal.returns
 returns c =

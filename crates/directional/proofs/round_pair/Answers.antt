@@ -11,7 +11,7 @@ use Rattle.directional.proofs.Pair.{columns_part, columns_room, pair_round_by}
 use Rattle.directional.proofs.round_pair.Goals as goal
 
 pub take_columns-requires : goal.take_columns-requires
-take_columns-requires c =  (c.requires.0, c.requires.1, room_more (2 ^ 50) c.requires.2 (omega arith), c.requires.3)
+take_columns-requires c = (c.requires.0, c.requires.1, room_more (2 ^ 50) c.requires.2 (omega arith), c.requires.3)
 
 pub tighten_lanes-requires : goal.tighten_lanes-requires
 tighten_lanes-requires c =

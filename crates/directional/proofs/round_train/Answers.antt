@@ -17,7 +17,7 @@ loop-k-init c = (omega arith, refl, sym (iter-zero _ _))
 
 -- the pairs so far
 progress : (l : At-loop-k)
-    →  Progress l.args.b.now (Waiting l.args.b.now l.args.j l.loop-k.k) l.loop-k.b
+    → Progress l.args.b.now (Waiting l.args.b.now l.args.j l.loop-k.k) l.loop-k.b
 progress l =
     let r = l.requires.0 in
     rw l.loop-k.invariant.2

@@ -52,14 +52,13 @@ low : (c : After-negated) → mag c.negated.result ≤ 2 ^ 57 + 1
 low c = omega (arith, c.negated.ensures.1, ap mag (cost c.before), small c.before)
 
 pub project-requires : goal.project-requires
-project-requires c =
-     (
-      c.requires.0,
-      room_more (2 ^ 59) c.requires.1 (omega arith),
-      c.requires.2,
-      c.requires.3,
-      rw (back c.negated.result (omega (arith, low c))) (omega (arith, low c)),
-    )
+project-requires c = (
+  c.requires.0,
+  room_more (2 ^ 59) c.requires.1 (omega arith),
+  c.requires.2,
+  c.requires.3,
+  rw (back c.negated.result (omega (arith, low c))) (omega (arith, low c)),
+)
 
 pub returns : goal.returns
 returns c =

@@ -2,13 +2,13 @@
 use Rattle.kinds.proofs.read_fields.Goals as goal
 
 pub read_add-requires : goal.read_add-requires
-read_add-requires c =  (c.requires.0, c.requires.1 (rw c.in-Add.is))
+read_add-requires c = (c.requires.0, c.requires.1 (rw c.in-Add.is))
 
 pub read_shift-requires : goal.read_shift-requires
-read_shift-requires c =  (c.requires.0, c.requires.1 (rw c.in-Shift.is))
+read_shift-requires c = (c.requires.0, c.requires.1 (rw c.in-Shift.is))
 
 pub read_certify-requires : goal.read_certify-requires
-read_certify-requires c =  (c.requires.0, c.requires.1 (rw c.in-Certify.is))
+read_certify-requires c = (c.requires.0, c.requires.1 (rw c.in-Certify.is))
 
 pub returns-in-Load : goal.returns-in-Load
 returns-in-Load c = rw c.in-Load.is c.read_load.ensures

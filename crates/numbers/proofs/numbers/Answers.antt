@@ -10,13 +10,13 @@ use Rattle.operations.specs.Saved.{saved_numbers}
 use Rattle.numbers.proofs.numbers.Goals as goal
 
 pub read_figures-requires : goal.read_figures-requires
-read_figures-requires c =  omega (arith, c.requires.study.1, c.requires.study.0.whole, trains_range c.requires.study.0)
+read_figures-requires c = omega (arith, c.requires.study.1, c.requires.study.0.whole, trains_range c.requires.study.0)
 
 pub read_figures-requires-2 : goal.read_figures-requires-2
-read_figures-requires-2 c =  omega (arith, c.requires.firsts_len.0, c.requires.study.0.whole, pairs_range c.requires.study.0)
+read_figures-requires-2 c = omega (arith, c.requires.firsts_len.0, c.requires.study.0.whole, pairs_range c.requires.study.0)
 
 pub read_figures-requires-3 : goal.read_figures-requires-3
-read_figures-requires-3 c =  omega (arith, c.requires.firsts_len.1, c.requires.study.0.whole, pairs_range c.requires.study.0)
+read_figures-requires-3 c = omega (arith, c.requires.firsts_len.1, c.requires.study.0.whole, pairs_range c.requires.study.0)
 
 pub returns : goal.returns
 unfolding saved_numbers

@@ -1,7 +1,7 @@
 -- The invariant: the costs of the first i trains stand in the front of the slice. Each turn reads one train's costs behind them.
 use borrow.Author.Rules.{rules}
 use mathlib.Core.Path.{◌≡◌, sym, ◌∙◌}
-use Prim.Native.Nat.{◌+◌, ◌-◌, ◌<◌, ◌≤◌}
+use Prim.Native.Nat.{◌+◌, ◌<◌, ◌≤◌}
 use native.Mathlib.Omega.{arith}
 use lib.ListN.{length}
 use lib.Seq.{take_all}
@@ -24,7 +24,7 @@ pub loop-i-init : goal.loop-i-init
 loop-i-init c = let b = c.args.b.now in (omega arith, search rules, sym (sum_none (size b)), sym (joined_none (train_costs b)))
 
 pub size-count-requires : goal.size-count-requires
-size-count-requires c =  (c.requires.0.whole, omega (arith, trains_range c.requires.0, c.trains-n.ensures))
+size-count-requires c = (c.requires.0.whole, omega (arith, trains_range c.requires.0, c.trains-n.ensures))
 
 -- the train is there, and so are the places for its costs
 known : (c : After-size-count)

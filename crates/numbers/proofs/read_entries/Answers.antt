@@ -1,7 +1,7 @@
 -- The invariant: the costs of the first k pairs stand in the front of the slice. Each turn reads one pair's costs behind them.
 use borrow.Author.Rules.{rules}
 use mathlib.Core.Path.{◌≡◌, refl, sym, ap₂, ◌∙◌}
-use Prim.Native.Nat.{ℕ, ◌+◌, ◌*◌, ◌-◌, ◌<◌, ◌≤◌}
+use Prim.Native.Nat.{◌+◌, ◌*◌, ◌<◌, ◌≤◌}
 use native.Mathlib.Nat.{mul-le-mul}
 use native.Mathlib.Omega.{arith}
 use lib.ListN.{length}
@@ -14,7 +14,7 @@ use Rattle.tables.specs.Counts.{pair_entries}
 use Rattle.tables.proofs.Counting.{rows_range, columns_range, entries_part}
 use Rattle.operations.specs.Saved.{pair_costs}
 use Rattle.numbers.proofs.Saved.{pair_costs_length}
-use Rattle.numbers.proofs.read_entries.Goals.{In-loop-k}
+use Rattle.numbers.proofs.read_entries.Goals.{In-loop-k, After-columns_of-columns}
 use Rattle.numbers.proofs.read_entries.Goals as goal
 
 pub pairs-m-requires : goal.pairs-m-requires
@@ -33,54 +33,45 @@ rows_of-rows-requires c = (c.requires.0, here c)
 pub columns_of-columns-requires : goal.columns_of-columns-requires
 columns_of-columns-requires c = (c.requires.0, here (goal.at.columns_of-columns-requires c).In-loop-k)
 
-module _ (c : tie.After-columns-of invariant-loop decreases-loop) where
-
-  abbrev start : tie.Start invariant-loop decreases-loop
-  start = c.before.before.before.before.before.before
-
-  abbrev pair : ℕ
-  pair = c.before.before.before.loop.k
-
-  there : pair < pairs start.args.b.now
-  there = here c.before.before
+module _ (c : After-columns_of-columns) where
+  there : c.loop-k.k < pairs c.args.b.now
+  there = omega (arith, c.pairs-m.ensures, c.loop-k-test.true)
 
   -- its costs
-  cells : c.before.rows_of_lem.result * c.columns_of.result ≡ pair_entries (shape_of start.args.b.now) pair
-  cells = ap₂ ◌*◌ c.before.rows_of_lem.ensures c.columns_of.ensures
+  cells : c.rows_of-rows.result * c.columns_of-columns.result ≡ pair_entries (shape_of c.args.b.now) c.loop-k.k
+  cells = ap₂ ◌*◌ c.rows_of-rows.ensures c.columns_of-columns.ensures
 
-  small : (c.before.rows_of_lem.result ≤ max_choices) × (c.columns_of.result ≤ max_choices)
+  small : (c.rows_of-rows.result ≤ max_choices) × (c.columns_of-columns.result ≤ max_choices)
   small = (
-    omega (arith, c.before.rows_of_lem.ensures, rows_range start.pre.0 pair there),
-    omega (arith, c.columns_of.ensures, columns_range start.pre.0 pair there),
+    omega (arith, c.rows_of-rows.ensures, rows_range c.requires.0 c.loop-k.k there),
+    omega (arith, c.columns_of-columns.ensures, columns_range c.requires.0 c.loop-k.k there),
   )
 
   -- the places for them
-  room : c.before.before.before.loop.start + c.before.rows_of_lem.result * c.columns_of.result ≤ length c.before.before.before.loop.entries
-  room =
-      let b = start.args.b.now in
-      omega (arith, cells, c.before.before.before.loop.invariant, start.pre.1, entries_part (shape_of b) pair (pairs b) there)
+  room : c.loop-k.start + c.rows_of-rows.result * c.columns_of-columns.result ≤ length c.loop-k.entries
+  room = omega (arith, cells, c.loop-k.invariant, c.requires.1, entries_part (shape_of c.args.b.now) c.loop-k.k (pairs c.args.b.now) there)
 
 pub read_pair-requires : goal.read_pair-requires
 read_pair-requires c = record {
-      study = ((start c).requires.0, there c, c.rows_of-rows.ensures, c.columns_of-columns.ensures);
-      columns_in_bounds = room c;
-    }
+  study = (c.requires.0, there (goal.at.read_pair-requires c).After-columns_of-columns, c.rows_of-rows.ensures, c.columns_of-columns.ensures);
+  columns_in_bounds = room (goal.at.read_pair-requires c).After-columns_of-columns;
+}
 
 pub overflow_mul-start : goal.overflow_mul-start
-overflow_mul-start c = let w = small c in omega (arith, mul-le-mul w.0 w.1)
+overflow_mul-start c = let w = small (goal.at.overflow_mul-start c).After-columns_of-columns in omega (arith, mul-le-mul w.0 w.1)
 
 pub overflow_add-start : goal.overflow_add-start
-overflow_add-start c = omega (arith, room c)
+overflow_add-start c = omega (arith, room (goal.at.overflow_add-start c).After-columns_of-columns)
 
 pub loop-k-preserved : goal.loop-k-preserved
 loop-k-preserved c =
-    let b = (start c).args.b.now in
+    let b = c.args.b.now in
     let k = c.loop-k.k in (
       omega arith,
       search rules,
-      omega (arith, c.loop-k.invariant.2, cells c, sum_more k (pair_entries (shape_of b))),
+      omega (arith, c.loop-k.invariant.2, cells (goal.at.loop-k-preserved c).After-columns_of-columns, sum_more k (pair_entries (shape_of b))),
       joined_turn (pair_costs b) k c.loop-k.entries c.loop-k.start (c.rows_of-rows.result * c.columns_of-columns.result) c.loop-k.invariant.3
-          refl (pair_costs_length b k ∙ sym (cells c)) (room c) c.read_pair.ensures,
+          refl (pair_costs_length b k ∙ sym (cells (goal.at.loop-k-preserved c).After-columns_of-columns)) (room (goal.at.loop-k-preserved c).After-columns_of-columns) c.read_pair.ensures,
     )
 
 pub returns : goal.returns

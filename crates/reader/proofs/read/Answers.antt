@@ -18,4 +18,4 @@ returns-in-Broken c = rw (← c.new.ensures, c.in-Broken.is)
 
 pub returns-in-Within : goal.returns-in-Within
 unfolding line_of
-returns-in-Within c =  rw (← c.new.ensures, c.in-Within.is) c.read_kind.ensures
+returns-in-Within c = rw (← c.new.ensures, c.in-Within.is) c.read_kind.ensures

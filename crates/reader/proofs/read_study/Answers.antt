@@ -7,7 +7,7 @@ use Rattle.reader.proofs.read_study.Goals as goal
 
 pub returns-then-lacks_study : goal.returns-then-lacks_study
 unfolding study_line
-returns-then-lacks_study c =  rw (← c.requires.2, ← c.lacks_study.ensures, c.if-lacks_study.true)
+returns-then-lacks_study c = rw (← c.requires.2, ← c.lacks_study.ensures, c.if-lacks_study.true)
 
 -- a block is not fresh where a kind that needs a study does not lack it
 held : (x y : Bool) → x ≡ true → x && y ≡ false → y ≡ false
@@ -19,4 +19,4 @@ read_fields-requires c =
 
 pub returns : goal.returns
 unfolding study_line
-returns c =  rw (← c.requires.2, ← c.lacks_study.ensures, c.if-lacks_study.false) c.read_fields.ensures
+returns c = rw (← c.requires.2, ← c.lacks_study.ensures, c.if-lacks_study.false) c.read_fields.ensures

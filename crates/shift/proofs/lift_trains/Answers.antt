@@ -2,7 +2,7 @@
 use mir.Syntax.{w64}
 use borrow.Author.Rules.{rules, sfits_of}
 use mathlib.Core.Path.{◌≡◌, refl, sym}
-use Prim.Native.Nat.{◌+◌, ◌-◌, ◌^◌}
+use Prim.Native.Nat.{◌+◌, ◌^◌}
 use native.Mathlib.Omega.{arith}
 use mir.Facts.{to_z-of_z}
 use Rattle.theory.proofs.Fold.{iter-zero, iter_turn}

@@ -1,7 +1,7 @@
 -- Each turn makes the moves of one pair, a chain of at most 16, and the start goes on by as many as it took.
 use borrow.Author.Rules.{rules}
 use mathlib.Core.Path.{◌≡◌, refl, sym}
-use Prim.Native.Nat.{◌+◌, ◌*◌, ◌-◌, ◌<◌, ◌^◌}
+use Prim.Native.Nat.{◌+◌, ◌*◌, ◌<◌, ◌^◌}
 use native.Mathlib.Omega.{arith}
 use Rattle.theory.proofs.Sum.{sum_none, sum_more}
 use Rattle.theory.proofs.Fold.{iter-zero, iter_turn}

@@ -11,7 +11,7 @@ use Rattle.tighten.proofs.Folds.{pair_tight_by}
 use Rattle.tighten.proofs.tighten_pair.Goals as goal
 
 pub tighten_lanes-requires : goal.tighten_lanes-requires
-tighten_lanes-requires c =  (c.requires.0, c.requires.1, room_more (2 ^ 52) c.requires.2 (omega arith), c.requires.3)
+tighten_lanes-requires c = (c.requires.0, c.requires.1, room_more (2 ^ 52) c.requires.2 (omega arith), c.requires.3)
 
 pub tighten_lanes-requires-2 : goal.tighten_lanes-requires-2
 tighten_lanes-requires-2 c =

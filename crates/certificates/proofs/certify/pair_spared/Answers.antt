@@ -1,6 +1,5 @@
 -- The rows so far are spared, and the first that is not ends the loop.
 use mathlib.Core.Path.{◌≡◌, sym}
-use Prim.Native.Nat.{◌-◌}
 use native.Mathlib.Omega.{arith}
 use Rattle.theory.proofs.Range.{refused, passed, all-zero, all_more, all_false}
 use Rattle.tables.specs.Plans.{shape_of}
@@ -13,28 +12,28 @@ use Rattle.certificates.proofs.certify.pair_spared.Goals.{After-run_spared}
 use Rattle.certificates.proofs.certify.pair_spared.Goals as goal
 
 pub rows_of-rows-requires : goal.rows_of-rows-requires
-rows_of-rows-requires c =  (c.requires.study, c.requires.pair_from.there)
+rows_of-rows-requires c = (c.requires.study, c.requires.pair_from.there)
 
 pub columns_of-columns-requires : goal.columns_of-columns-requires
-columns_of-columns-requires c =  (c.requires.study, c.requires.pair_from.there)
+columns_of-columns-requires c = (c.requires.study, c.requires.pair_from.there)
 
 pub loop-a-init : goal.loop-a-init
 loop-a-init c = (c.rows_of-rows.ensures, c.columns_of-columns.ensures, omega arith, all-zero _)
 
 pub entry_place-place-requires : goal.entry_place-place-requires
-entry_place-place-requires c = 
+entry_place-place-requires c =
     omega (arith, pairs_range c.requires.study, rows_range c.requires.study c.args.k c.requires.pair_from.there)
 
 pub overflow_mul-columns : goal.overflow_mul-columns
-overflow_mul-columns c = 
+overflow_mul-columns c =
     rw c.loop-a.invariant.1 (omega (arith, row_inside c.requires.study c.requires.weights_for c.args.k c.requires.pair_from.there c.loop-a.a (omega arith)))
 
 pub overflow_add-from : goal.overflow_add-from
-overflow_add-from c = 
+overflow_add-from c =
     rw c.loop-a.invariant.1 (omega (arith, row_inside c.requires.study c.requires.weights_for c.args.k c.requires.pair_from.there c.loop-a.a (omega arith)))
 
 pub run_spared-requires : goal.run_spared-requires
-run_spared-requires c = 
+run_spared-requires c =
     let k = c.args.k in
     let h = c.requires.pair_from.there in
     rw (c.requires.pair_from.begins, c.loop-a.invariant.1, c.entry_place-place.ensures) (
@@ -51,14 +50,14 @@ run c =
 
 pub returns-then-not-run_spared : goal.returns-then-not-run_spared
 unfolding pair_spared
-returns-then-not-run_spared c =  sym (all_false _ _ c.loop-a.a (omega arith) (refused (run (goal.at.returns-then-not-run_spared c).After-run_spared) c.if-not-run_spared.true-raw))
+returns-then-not-run_spared c = sym (all_false _ _ c.loop-a.a (omega arith) (refused (run (goal.at.returns-then-not-run_spared c).After-run_spared) c.if-not-run_spared.true-raw))
 
 pub loop-a-preserved : goal.loop-a-preserved
-loop-a-preserved c =  (c.loop-a.invariant.0, c.loop-a.invariant.1, omega arith, all_more _ _ c.loop-a.invariant.3 (passed (run (goal.at.loop-a-preserved c).After-run_spared) c.if-not-run_spared.false-raw))
+loop-a-preserved c = (c.loop-a.invariant.0, c.loop-a.invariant.1, omega arith, all_more _ _ c.loop-a.invariant.3 (passed (run (goal.at.loop-a-preserved c).After-run_spared) c.if-not-run_spared.false-raw))
 
 pub returns : goal.returns
 unfolding pair_spared
-returns c = 
+returns c =
     let l = c.loop-a in
     let e : l.a ≡ rows_of (shape_of c.args.b.now) c.args.k = omega arith in
     sym (rw e at l.invariant.3)

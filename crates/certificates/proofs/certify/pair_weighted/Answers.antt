@@ -1,6 +1,6 @@
 -- The sum so far is that of the rows passed, each of which adds at most 100,000 times the highest held cost.
 use mathlib.Core.Path.{◌≡◌, sym}
-use Prim.Native.Nat.{◌+◌, ◌-◌}
+use Prim.Native.Nat.{◌+◌}
 use native.Mathlib.Omega.{arith}
 use Rattle.theory.proofs.Sum.{sum_none, sum_more}
 use Rattle.tables.proofs.Study.{pairs_range}
@@ -13,28 +13,28 @@ use Rattle.certificates.proofs.certify.pair_weighted.Goals.{After-run_weighted-s
 use Rattle.certificates.proofs.certify.pair_weighted.Goals as goal
 
 pub rows_of-rows-requires : goal.rows_of-rows-requires
-rows_of-rows-requires c =  (c.requires.study, c.requires.pair_from.there)
+rows_of-rows-requires c = (c.requires.study, c.requires.pair_from.there)
 
 pub columns_of-columns-requires : goal.columns_of-columns-requires
-columns_of-columns-requires c =  (c.requires.study, c.requires.pair_from.there)
+columns_of-columns-requires c = (c.requires.study, c.requires.pair_from.there)
 
 pub loop-a-init : goal.loop-a-init
 loop-a-init c = (c.rows_of-rows.ensures, c.columns_of-columns.ensures, omega arith, sym (sum_none _))
 
 pub entry_place-place-requires : goal.entry_place-place-requires
-entry_place-place-requires c = 
+entry_place-place-requires c =
     omega (arith, pairs_range c.requires.study, rows_range c.requires.study c.args.k c.requires.pair_from.there)
 
 pub overflow_mul-columns : goal.overflow_mul-columns
-overflow_mul-columns c = 
+overflow_mul-columns c =
     rw c.loop-a.invariant.1 (omega (arith, row_inside c.requires.study c.requires.weights_for c.args.k c.requires.pair_from.there c.loop-a.a (omega arith)))
 
 pub overflow_add-from : goal.overflow_add-from
-overflow_add-from c = 
+overflow_add-from c =
     rw c.loop-a.invariant.1 (omega (arith, row_inside c.requires.study c.requires.weights_for c.args.k c.requires.pair_from.there c.loop-a.a (omega arith)))
 
 pub run_weighted-sum-requires : goal.run_weighted-sum-requires
-run_weighted-sum-requires c = 
+run_weighted-sum-requires c =
     rw (c.requires.pair_from.begins, c.loop-a.invariant.1, c.entry_place-place.ensures)
     (row_weights c.requires.study c.args.k c.requires.pair_from.there c.requires.rows_within c.requires.weights_for c.loop-a.a (omega arith))
 
@@ -46,7 +46,7 @@ run c =
     rw (c.requires.pair_from.begins, c.loop-a.invariant.1, c.entry_place-place.ensures) at c.run_weighted-sum.ensures
 
 pub overflow_add-sum : goal.overflow_add-sum
-overflow_add-sum c = 
+overflow_add-sum c =
     omega (
       arith,
       run c,
@@ -56,17 +56,16 @@ overflow_add-sum c =
     )
 
 pub loop-a-preserved : goal.loop-a-preserved
-loop-a-preserved c = 
-     (
-      c.loop-a.invariant.0,
-      c.loop-a.invariant.1,
-      omega arith,
-      omega (arith, run c, sum_more c.loop-a.a (row_weighted c.args.b.now c.args.weights.now c.args.k)),
-    )
+loop-a-preserved c = (
+  c.loop-a.invariant.0,
+  c.loop-a.invariant.1,
+  omega arith,
+  omega (arith, run c, sum_more c.loop-a.a (row_weighted c.args.b.now c.args.weights.now c.args.k)),
+)
 
 pub returns : goal.returns
 unfolding pair_weighted
-returns c = 
+returns c =
     let l = c.loop-a in
     let e : l.a ≡ rows_of (shape_of c.args.b.now) c.args.k = omega arith in
     rw e at l.invariant.3

@@ -1,6 +1,6 @@
 -- The sum so far is that of the weights passed, each below 2 ^ 24, so that eight of them fit.
 use mathlib.Core.Path.{◌≡◌, sym}
-use Prim.Native.Nat.{◌+◌, ◌*◌, ◌-◌}
+use Prim.Native.Nat.{◌+◌, ◌*◌}
 use native.Mathlib.Omega.{arith}
 use lib.ListN.{get_or}
 use Rattle.theory.proofs.Sum.{sum_none, sum_more}
@@ -19,10 +19,10 @@ pub offset_bounds-weights-from : goal.offset_bounds-weights-from
 offset_bounds-weights-from c = omega (arith, c.requires.inside c.loop-k.k (omega arith))
 
 pub bounds-weights-from : goal.bounds-weights-from
-bounds-weights-from c =  omega (arith, c.requires.inside c.loop-k.k (omega arith))
+bounds-weights-from c = omega (arith, c.requires.inside c.loop-k.k (omega arith))
 
 pub overflow_add-sum-in-loop-k : goal.overflow_add-sum-in-loop-k
-overflow_add-sum-in-loop-k c =  omega (arith, c.requires.small c.loop-k.k (omega arith))
+overflow_add-sum-in-loop-k c = omega (arith, c.requires.small c.loop-k.k (omega arith))
 
 pub loop-k-preserved : goal.loop-k-preserved
 loop-k-preserved c = let l = c.loop-k in

@@ -1,7 +1,5 @@
 -- The runs so far sum to their weights, and the first that does not ends the loop.
 use mathlib.Core.Path.{◌≡◌, sym}
-use mathlib.Core.Bool.{true}
-use Prim.Native.Nat.{◌-◌}
 use native.Mathlib.Omega.{arith}
 use Rattle.theory.proofs.Range.{all-zero, all_more, all_false}
 use Rattle.certificates.proofs.Runs.{equal, unequal}
@@ -20,11 +18,11 @@ pub run_sum-requires : goal.run_sum-requires
 run_sum-requires c = c.requires.each c.loop-r.r (omega arith)
 
 pub returns-then-run_sum-weights : goal.returns-then-run_sum-weights
-returns-then-run_sum-weights c = 
+returns-then-run_sum-weights c =
     sym (all_false _ _ c.loop-r.r (omega arith) (unequal c.run_sum.ensures c.if-run_sum-weights.true))
 
 pub loop-r-preserved : goal.loop-r-preserved
-loop-r-preserved c = 
+loop-r-preserved c =
     (omega arith, all_more _ _ c.loop-r.invariant.1 (equal c.run_sum.ensures c.if-run_sum-weights.false))
 
 pub returns : goal.returns

@@ -1,9 +1,8 @@
 -- The cells hold what the clauses so far charge, and each turn adds one clause.
-use mathlib.Core.Path.{◌≡◌, ap}
-use Prim.Native.Nat.{ℕ, ◌-◌}
+use mathlib.Core.Path.{◌≡◌}
 use native.Mathlib.Omega.{arith}
-use lib.ListN.{length, length-replicate}
-use Rattle.clauses.specs.Clauses.{clauses, max_cells}
+use lib.ListN.{length}
+use Rattle.clauses.specs.Clauses.{clauses}
 use Rattle.clauses.proofs.Turns.{charged_none, charged_more, cost_most}
 use Rattle.clauses.proofs.charges.charge.Goals as goal
 
@@ -30,9 +29,6 @@ pub loop-k-preserved : goal.loop-k-preserved
 loop-k-preserved c =
     let a = c.args in
     (omega arith, charged_more (clauses a.firsts.now a.seconds.now a.weights.now) c.loop-k.k c.loop-k.cells c.loop-k.invariant.1 c.clause_cell-o.ensures.0 c.clause_cell-o.ensures.1)
-
--- TODO same_length : tie.Need-same-length invariant-loop decreases-loop
--- same_length c = let s = c.before.before.before.before in omega (arith, c.before.loop.invariant.1.whole, ap length s.requires.0, length-replicate {A = ℕ} max_cells 0)
 
 pub returns : goal.returns
 returns c = let e : c.loop-k.k ≡ length c.args.weights.now = omega arith in rw e at c.loop-k.invariant.1

@@ -1,6 +1,5 @@
 -- The codes of the clauses so far are marked, and each turn marks one more.
 use mathlib.Core.Path.{◌≡◌}
-use Prim.Native.Nat.{◌-◌}
 use native.Mathlib.Omega.{arith}
 use lib.ListN.{length}
 use Rattle.clauses.specs.Clauses.{clauses}

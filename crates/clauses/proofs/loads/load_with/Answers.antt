@@ -6,9 +6,9 @@ use Rattle.clauses.proofs.loads.load_with.Goals as goal
 
 pub make-requires : goal.make-requires
 make-requires c = record {
-      cells_len = (c.requires.block_len.1, c.requires.block_len.2, c.requires.block_len.3);
-      choices_len_bound = (omega (arith, c.requires.sizes_len_bound), c.requires.firsts_len.0, c.requires.firsts_len.1, c.requires.firsts_len.2);
-    }
+  cells_len = (c.requires.block_len.1, c.requires.block_len.2, c.requires.block_len.3);
+  choices_len_bound = (omega (arith, c.requires.sizes_len_bound), c.requires.firsts_len.0, c.requires.firsts_len.1, c.requires.firsts_len.2);
+}
 
 pub load_lists-requires : goal.load_lists-requires
 load_lists-requires c =

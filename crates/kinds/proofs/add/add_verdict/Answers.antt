@@ -26,7 +26,7 @@ train : (c : Else-not-is_fine)
 train c = rw (← c.trains.ensures) (went_on c.index_verdict-train.result _ c.is_fine.ensures c.index_verdict-train.ensures c.if-not-is_fine.false-raw)
 
 -- the train is there
-there : (c : Else-not-is_fine) → 
+there : (c : Else-not-is_fine) →
     (end_of add_train_field ≤ bytes c.args.line.now) × (add_train c.args.line.now < trains c.args.block.now)
 there c =
     let w = field-within _ _ refl (train c) in
@@ -50,7 +50,7 @@ returns-then-not-is_fine-2 c =
 pub last_verdict-requires : goal.last_verdict-requires
 last_verdict-requires c = rw c.points_field.ensures (c.requires.0, omega arith, omega arith)
 
-choice : (c : Else-not-is_fine-2) → 
+choice : (c : Else-not-is_fine-2) →
     field_verdict c.args.line.now (below add_choice_field (size c.args.block.now (add_train c.args.line.now))) ≡ Fine
 choice c =
     rw (← c.number_in.ensures, ← c.size-size.ensures) (went_on c.index_verdict-choice.result _ c.is_fine-2.ensures c.index_verdict-choice.ensures c.if-not-is_fine-2.false-raw)

@@ -8,9 +8,9 @@ use Rattle.kinds.proofs.certify.read_certify.Goals as goal
 
 pub runs_verdict-requires : goal.runs_verdict-requires
 runs_verdict-requires c = record {
-      framed = (c.requires.0, omega arith, omega arith, omega arith);
-      at_bound = (omega arith, omega arith, omega (arith, c.weight_count-count.ensures, weight_count_most c.requires.1));
-    }
+  framed = (c.requires.0, omega arith, omega arith, omega arith);
+  at_bound = (omega arith, omega arith, omega (arith, c.weight_count-count.ensures, weight_count_most c.requires.1));
+}
 
 pub number_in-requires : goal.number_in-requires
 unfolding certify_verdict

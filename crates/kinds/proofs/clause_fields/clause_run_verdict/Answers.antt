@@ -1,6 +1,5 @@
 -- The invariant: the clauses so far are fine.
 use mathlib.Core.Path.{◌≡◌, ap, ◌∙◌}
-use Prim.Native.Nat.{◌-◌}
 use native.Mathlib.Omega.{arith}
 use Rattle.refusals.proofs.Verdicts.{went_on, declined, first_none, first_more, stopped}
 use Rattle.lines.specs.Verdicts.{end_verdict}

@@ -21,7 +21,7 @@ returns-then-bytes-weight c =
     rw (← c.requires.0.whole, lt-leb _ _ h)
 
 -- the literals are there
-there : (c : Else-bytes-weight) →  (clause_weight_field c.args.k).at ≤ c.args.bytes
+there : (c : Else-bytes-weight) → (clause_weight_field c.args.k).at ≤ c.args.bytes
 there c = rw c.weight_field-weight.ensures at c.if-bytes-weight.false
 
 pub literal_size-first-requires : goal.literal_size-first-requires
@@ -37,7 +37,7 @@ by_size : (n : ℕ) (z w : ℤ) {m a b : ℕ} {r : Bool} → m ≡ n → a ≡ n
 unfolding literals_right
 by_size n z w e f g h = rw (← e, ← f, ← g) h
 
-right : (c : After-right) → 
+right : (c : After-right) →
     c.right.result ≡ literals_right (load_trains c.args.line.now) (clause_first c.args.line.now c.args.k) (clause_second c.args.line.now c.args.k)
 right c =
     let l = c.args.line.now in

@@ -1,6 +1,6 @@
 -- The sizes so far are summed; a size is at most 8, and there are at most 24.
 use mathlib.Core.Path.{◌≡◌, refl, sym}
-use Prim.Native.Nat.{◌-◌, ◌≤◌}
+use Prim.Native.Nat.{◌≤◌}
 use native.Mathlib.Omega.{arith}
 use Rattle.theory.proofs.Sum.{sum_none, sum_more}
 use Rattle.tables.specs.Block.{max_trains, max_choices}

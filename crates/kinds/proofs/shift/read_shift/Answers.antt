@@ -22,7 +22,7 @@ runs_verdict-requires c =
       at_bound = (omega (arith, c.trains-n.ensures, t), omega arith, omega (arith, c.move_count-count.ensures, move_count_most c.requires.1));
     })
 
-judged : (c : After-runs_verdict) → 
+judged : (c : After-runs_verdict) →
     c.runs_verdict.result ≡ shift_verdict c.args.line.now (trains c.args.block.now) (move_count (shape_of c.args.block.now))
 unfolding shift_verdict
 judged c =

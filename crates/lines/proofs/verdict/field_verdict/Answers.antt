@@ -11,7 +11,7 @@ use Rattle.lines.proofs.verdict.field_verdict.Goals as goal
 
 pub returns-then-bytes-at : goal.returns-then-bytes-at
 unfolding field_verdict
-returns-then-bytes-at c =  rw (← c.requires.0.whole, lt-leb _ _ c.if-bytes-at.true)
+returns-then-bytes-at c = rw (← c.requires.0.whole, lt-leb _ _ c.if-bytes-at.true)
 
 pub returns-then-takes_any : goal.returns-then-takes_any
 unfolding field_verdict

@@ -5,7 +5,7 @@ use Rattle.lines.proofs.verdict.last_verdict.Goals as goal
 
 pub returns-then-not-is_fine : goal.returns-then-not-is_fine
 unfolding last_verdict
-returns-then-not-is_fine c =  declined c.field_verdict-v.result _ _ c.is_fine.ensures c.field_verdict-v.ensures c.if-not-is_fine.true-raw
+returns-then-not-is_fine c = declined c.field_verdict-v.result _ _ c.is_fine.ensures c.field_verdict-v.ensures c.if-not-is_fine.true-raw
 
 pub returns : goal.returns
 unfolding last_verdict

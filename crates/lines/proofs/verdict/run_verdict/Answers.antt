@@ -1,6 +1,6 @@
 -- The fields so far are fine, and the first that is not ends the loop.
 use mathlib.Core.Path.{◌≡◌, sym, ap, ◌∙◌}
-use Prim.Native.Nat.{◌*◌, ◌-◌, ◌≤◌, ◌^◌}
+use Prim.Native.Nat.{◌*◌, ◌≤◌, ◌^◌}
 use native.Mathlib.Nat.{mul-le-mul}
 use native.Mathlib.Omega.{arith}
 use Rattle.refusals.proofs.Verdicts.{went_on, first_none, first_more, stopped}
@@ -17,7 +17,7 @@ far : (c : In-loop-k) → c.args.f.width * c.loop-k.k ≤ 6 * 2 ^ 32
 far c = let h : c.loop-k.k ≤ 2 ^ 32 = omega arith in mul-le-mul c.requires.2 h
 
 pub field_verdict-v-requires : goal.field_verdict-v-requires
-field_verdict-v-requires c =  rw c.further.ensures (c.requires.0, omega (arith, far (goal.at.field_verdict-v-requires c).In-loop-k), c.requires.2)
+field_verdict-v-requires c = rw c.further.ensures (c.requires.0, omega (arith, far (goal.at.field_verdict-v-requires c).In-loop-k), c.requires.2)
 
 judged : (c : After-field_verdict-v)
     → c.field_verdict-v.result ≡ field_verdict c.args.line.now (further c.args.f c.loop-k.k)

@@ -35,7 +35,8 @@ choice_open-requires c = omega (arith, known c)
 
 pub returns-then-not-choice_open : goal.returns-then-not-choice_open
 returns-then-not-choice_open c =
-    add-closed c.args.i c.args.a c.args.points.0 c.args.block.now (refused c.choice_open.ensures c.if-not-choice_open.true-raw)
+    let w = add-closed c.args.i c.args.a c.args.points.0 c.args.block.now (refused c.choice_open.ensures c.if-not-choice_open.true-raw) in
+    record { value = w.0; block_after = w.1 }
 
 -- past the first test the choice is open
 choice-opened : (c : Else-not-choice_open) → add_open c.args.i c.args.a c.args.block.now ≡ true
@@ -54,7 +55,8 @@ loaded-sum c = omega (arith, c.plus-loaded.ensures, c.loaded_choice.ensures)
 pub returns-then-not-at_most : goal.returns-then-not-at_most
 returns-then-not-at_most c =
     let above = leb-false c.plus-loaded.result.0 max_cost (sym c.at_most.ensures ∙ not-true _ c.if-not-at_most.true-raw) in
-    cost_above c.args.i c.args.a c.args.points.0 c.args.block.now (choice-opened (goal.at.returns-then-not-at_most c).Else-not-choice_open) (omega (arith, loaded-sum (goal.at.returns-then-not-at_most c).After-plus-loaded, above))
+    let w = cost_above c.args.i c.args.a c.args.points.0 c.args.block.now (choice-opened (goal.at.returns-then-not-at_most c).Else-not-choice_open) (omega (arith, loaded-sum (goal.at.returns-then-not-at_most c).After-plus-loaded, above)) in
+    record { value = w.0; block_after = w.1 }
 
 pub scale-requires : goal.scale-requires
 scale-requires c = let t = c.requires.0 in (t.whole, (scale_range t).0, (scale_range t).1)
@@ -91,13 +93,15 @@ pub returns-then-not-at_most-2 : goal.returns-then-not-at_most-2
 returns-then-not-at_most-2 c =
     let a = c.args in
     let above = leb-false c.plus-total.result.0 max_parts (sym c.at_most-2.ensures ∙ not-true _ c.if-not-at_most-2.true-raw) in
-    parts_above a.i a.a a.points.0 a.block.now (choice-opened (goal.at.returns-then-not-at_most-2 c).Else-not-choice_open) (loaded-within (goal.at.returns-then-not-at_most-2 c).Else-not-at_most) (omega (arith, held-sum (goal.at.returns-then-not-at_most-2 c).After-plus-total, above))
+    let at = goal.at.returns-then-not-at_most-2 c in
+    let w = parts_above a.i a.a a.points.0 a.block.now (choice-opened at.Else-not-choice_open) (loaded-within at.Else-not-at_most) (omega (arith, held-sum at.After-plus-total, above)) in
+    record { value = w.0; block_after = w.1 }
 
 pub put_loaded_choice-requires : goal.put_loaded_choice-requires
-put_loaded_choice-requires c =  omega (arith, c.requires.0.whole, c.requires.3, known (goal.at.put_loaded_choice-requires c).Start, loaded-sum (goal.at.put_loaded_choice-requires c).After-plus-loaded)
+put_loaded_choice-requires c = omega (arith, c.requires.0.whole, c.requires.3, known (goal.at.put_loaded_choice-requires c).Start, loaded-sum (goal.at.put_loaded_choice-requires c).After-plus-loaded)
 
 pub put_held_choice-requires : goal.put_held_choice-requires
-put_held_choice-requires c =  omega (arith, c.requires.0.whole, known (goal.at.put_held_choice-requires c).Start, held-sum (goal.at.put_held_choice-requires c).After-plus-total)
+put_held_choice-requires c = omega (arith, c.requires.0.whole, known (goal.at.put_held_choice-requires c).Start, held-sum (goal.at.put_held_choice-requires c).After-plus-total)
 
 pub returns : goal.returns
 returns c =

@@ -11,22 +11,22 @@ abbrev the-numbers : Start → Numbers
 the-numbers s = numbers s.args.scale.0 s.args.sizes.now s.args.choices.now s.args.firsts.now s.args.seconds.now s.args.entries.now
 
 pub load_sizes-requires : goal.load_sizes-requires
-load_sizes-requires c =  (search rules, in_sizes c.requires.in_range)
+load_sizes-requires c = (search rules, in_sizes c.requires.in_range)
 
 pub load_pairs-requires : goal.load_pairs-requires
-load_pairs-requires c =  (search rules, in_pairs c.requires.in_range max_trains c.requires.in_range.trains.1)
+load_pairs-requires c = (search rules, in_pairs c.requires.in_range max_trains c.requires.in_range.trains.1)
 
 pub load_choices-requires : goal.load_choices-requires
 load_choices-requires c = let r = c.requires.in_range in record {
-      b_len = (search rules, in_scale r, in_sizes r, record { right = r.choice_costs });
-      choices_len = r.choices;
-    }
+  b_len = (search rules, in_scale r, in_sizes r, record { right = r.choice_costs });
+  choices_len = r.choices;
+}
 
 pub load_entries-requires : goal.load_entries-requires
 load_entries-requires c = let r = c.requires.in_range in record {
-      b_len = (search rules, in_scale r, in_sizes r, record { right = r.entry_costs });
-      pairs_in = (in_pairs r _ (omega arith), r.entries);
-    }
+  b_len = (search rules, in_scale r, in_sizes r, record { right = r.entry_costs });
+  pairs_in = (in_pairs r _ (omega arith), r.entries);
+}
 
 pub returns : goal.returns
 returns c =

@@ -27,7 +27,7 @@ pub in_parts-parts-requires : goal.in_parts-parts-requires
 in_parts-parts-requires c = (c.requires.0, omega (arith, points c, small (goal.at.in_parts-parts-requires c).Else-cost-eq-FORBIDDEN))
 
 pub put_points-requires : goal.put_points-requires
-put_points-requires c =  omega (arith, points (goal.at.put_points-requires c).After-of-points, small (goal.at.put_points-requires c).Else-cost-eq-FORBIDDEN)
+put_points-requires c = omega (arith, points (goal.at.put_points-requires c).After-of-points, small (goal.at.put_points-requires c).Else-cost-eq-FORBIDDEN)
 
 -- and in T
 held : (c : After-in_parts-parts) → c.in_parts-parts.result.0 ≡ c.args.scale.0 * c.args.cost

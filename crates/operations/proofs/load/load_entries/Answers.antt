@@ -1,7 +1,7 @@
 -- Each turn stores the costs of one pair, and the next pair's costs begin where they end.
 use borrow.Author.Rules.{rules}
 use mathlib.Core.Path.{◌≡◌, refl, sym, ◌∙◌}
-use Prim.Native.Nat.{◌+◌, ◌-◌, ◌<◌, ◌≤◌}
+use Prim.Native.Nat.{◌+◌, ◌<◌, ◌≤◌}
 use native.Mathlib.Omega.{arith}
 use lib.ListN.{length}
 use native.Mathlib.Nat.{mul-le-mul}
@@ -13,23 +13,23 @@ use Rattle.tables.specs.Numbers.{list_shape}
 use Rattle.tables.specs.Plans.{Shape}
 use Rattle.tables.specs.Counts.{rows_of, columns_of, pair_entries}
 use Rattle.operations.proofs.LoadTurns.{entries_turn, pair_at_lem}
-use Rattle.operations.proofs.load.load_entries.Goals.{In-loop-k, Start}
+use Rattle.operations.proofs.load.load_entries.Goals.{In-loop-k}
 use Rattle.operations.proofs.load.load_entries.Goals as goal
 
 pub loop-k-init : goal.loop-k-init
 loop-k-init c = (omega arith, refl, sym (sum_none _), sym (iter-zero _ _))
 
 -- the shape of the study
-abbrev shape : Start → Shape
-shape s = list_shape s.args.sizes.now s.args.firsts.now s.args.seconds.now
+abbrev shape : In-loop-k → Shape
+shape c = list_shape c.args.sizes.now c.args.firsts.now c.args.seconds.now
 
 -- the trains of pair k are there, and so are its costs
 known : (c : In-loop-k)
     → (nth c.args.firsts.now c.loop-k.k < length c.args.sizes.now)
     × (nth c.args.seconds.now c.loop-k.k < length c.args.sizes.now)
-    × (rows_of (shape c.before.before.before.before.before.before) c.loop-k.k ≤ max_choices)
-    × (columns_of (shape c.before.before.before.before.before.before) c.loop-k.k ≤ max_choices)
-    × (c.loop-k.start + pair_entries (shape c.before.before.before.before.before.before) c.loop-k.k ≤ length c.args.entries.now)
+    × (rows_of (shape c) c.loop-k.k ≤ max_choices)
+    × (columns_of (shape c) c.loop-k.k ≤ max_choices)
+    × (c.loop-k.start + pair_entries (shape c) c.loop-k.k ≤ length c.args.entries.now)
 known c =
     let k = c.loop-k.k in
     let first = c.requires.pairs_in.0.first k c.loop-k-test.true in
@@ -38,7 +38,7 @@ known c =
       second,
       c.requires.b_len.2.small _ first,
       c.requires.b_len.2.small _ second,
-      omega (arith, sum_part (length c.args.firsts.now) k (pair_entries (shape c.before.before.before.before.before.before)) c.loop-k-test.true),
+      omega (arith, sum_part (length c.args.firsts.now) k (pair_entries (shape c)) c.loop-k-test.true),
     )
 
 pub offset_bounds-sizes-firsts : goal.offset_bounds-sizes-firsts
@@ -69,12 +69,13 @@ overflow_add-start c = let w = known (goal.at.overflow_add-start c).In-loop-k in
 pub loop-k-preserved : goal.loop-k-preserved
 loop-k-preserved c =
     let a = c.args in
+    let s = shape (goal.at.loop-k-preserved c).In-loop-k in
     let k = c.loop-k.k in (
       omega arith,
       search rules,
-      omega (arith, sum_more k (pair_entries (shape (goal.at.loop-k-preserved c).Start))),
-      pair_at_lem a.scale.0 a.entries.now (rows_of (shape (goal.at.loop-k-preserved c).Start) k) (columns_of (shape (goal.at.loop-k-preserved c).Start) k) k c.load_pair.ensures c.loop-k.invariant.2 c.loop-k.invariant.3
-          ∙ sym (iter-more k (entries_turn a.scale.0 (shape (goal.at.loop-k-preserved c).Start) a.entries.now) a.b.now),
+      omega (arith, sum_more k (pair_entries s)),
+      pair_at_lem a.scale.0 a.entries.now (rows_of s k) (columns_of s k) k c.load_pair.ensures c.loop-k.invariant.2 c.loop-k.invariant.3
+          ∙ sym (iter-more k (entries_turn a.scale.0 s a.entries.now) a.b.now),
     )
 
 pub returns : goal.returns

@@ -1,7 +1,7 @@
 -- Each turn stores one row, and the next row's costs begin where it ends.
 use borrow.Author.Rules.{rules}
 use mathlib.Core.Path.{◌≡◌, refl, sym, ◌∙◌}
-use Prim.Native.Nat.{◌+◌, ◌*◌, ◌-◌, ◌≤◌}
+use Prim.Native.Nat.{◌+◌, ◌*◌, ◌≤◌}
 use native.Mathlib.Omega.{arith}
 use Rattle.theory.proofs.Sum.{row_part}
 use Rattle.theory.proofs.Fold.{iter-zero, iter-more}
@@ -24,9 +24,9 @@ overflow_add-start c = omega (arith, row c, c.requires)
 
 pub load_run-requires : goal.load_run-requires
 load_run-requires c = record {
-      sound = (c.requires.b_len.1, c.requires.b_len.2, omega (arith, row c));
-      count_in_bounds = omega arith;
-    }
+  sound = (c.requires.b_len.1, c.requires.b_len.2, omega (arith, row c));
+  count_in_bounds = omega arith;
+}
 
 pub loop-a-preserved : goal.loop-a-preserved
 loop-a-preserved c =

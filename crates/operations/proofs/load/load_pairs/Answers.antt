@@ -1,7 +1,6 @@
 -- Each turn stores the two trains of one pair, as the definition does.
 use borrow.Author.Rules.{rules}
 use mathlib.Core.Path.{◌≡◌, refl, sym}
-use Prim.Native.Nat.{◌-◌}
 use native.Mathlib.Omega.{arith}
 use lib.ListN.{length}
 use Rattle.theory.proofs.Fold.{iter-zero, iter-more}

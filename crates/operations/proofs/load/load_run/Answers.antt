@@ -1,7 +1,7 @@
 -- Each turn stores one cost, as the definition does.
 use borrow.Author.Rules.{rules}
 use mathlib.Core.Path.{◌≡◌, refl, sym}
-use Prim.Native.Nat.{◌+◌, ◌-◌}
+use Prim.Native.Nat.{◌+◌}
 use native.Mathlib.Omega.{arith}
 use Rattle.theory.proofs.Fold.{iter-zero, iter_turn}
 use Rattle.operations.proofs.LoadTurns.{run_turn}

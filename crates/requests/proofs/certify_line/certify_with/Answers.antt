@@ -5,14 +5,14 @@ use Rattle.requests.proofs.Outcomes.{certify_answer}
 use Rattle.requests.proofs.certify_line.certify_with.Goals as goal
 
 pub decode-requires : goal.decode-requires
-decode-requires c =  (omega (arith, (certify_ready c.requires.0).inside, c.requires.1), omega arith)
+decode-requires c = (omega (arith, (certify_ready c.requires.0).inside, c.requires.1), omega arith)
 
 pub certify-requires : goal.certify-requires
-certify-requires c =  let r = certify_ready c.requires.0 in record {
-      study = r.study;
-      full_le_max_full_weight = r.full_weight;
-      weights_for = rw (c.decode.ensures, c.requires.1) r.weights;
-    }
+certify-requires c = let r = certify_ready c.requires.0 in record {
+  study = r.study;
+  full_le_max_full_weight = r.full_weight;
+  weights_for = rw (c.decode.ensures, c.requires.1) r.weights;
+}
 
 pub returns-in-Unbalanced : goal.returns-in-Unbalanced
 returns-in-Unbalanced c =

@@ -35,33 +35,27 @@ answer_clauses-requires c = let a = rw c.in-Clauses.is at c.requires in a
 
 pub returns-in-Load : goal.returns-in-Load
 returns-in-Load c =
-    let g = c.q-1.given in
-    rw g.1 (fixed_answers (rw g.1 at c.requires) refl c.answer_load.ensures)
+    rw c.in-Load.is (fixed_answers (rw c.in-Load.is at c.requires) refl c.answer_load.ensures)
 
 pub returns-in-Add : goal.returns-in-Add
 returns-in-Add c =
-    let g = c.q-in-Add-1.given in
-    rw g.1 (fixed_answers (rw g.1 at c.requires) refl (add_answers c.args.line.now c.args.block.now g.0.0 c.answer_add.ensures))
+    rw c.in-Add.is (fixed_answers (rw c.in-Add.is at c.requires) refl (add_answers c.args.line.now c.args.block.now c.in-Add.p c.answer_add.ensures))
 
 pub returns-in-Shift : goal.returns-in-Shift
 returns-in-Shift c =
-    let g = c.q-in-Shift-1.given in
-    rw g.1 (fixed_answers (rw g.1 at c.requires) refl c.answer_shift.ensures)
+    rw c.in-Shift.is (fixed_answers (rw c.in-Shift.is at c.requires) refl c.answer_shift.ensures)
 
 pub returns-in-Tighten : goal.returns-in-Tighten
 returns-in-Tighten c =
-    let g = c.enum_told-1.given in
-    rw g.1 (fixed_answers (rw g.1 at c.requires) refl (tighten_answers c.args.line.now c.args.block.now c.answer_tighten.ensures))
+    rw c.in-Tighten.is (fixed_answers (rw c.in-Tighten.is at c.requires) refl (tighten_answers c.args.line.now c.args.block.now c.answer_tighten.ensures))
 
 pub returns-in-Certify : goal.returns-in-Certify
 returns-in-Certify c =
-    let g = c.q-in-Certify-1.given in
-    rw g.1 (fixed_answers (rw g.1 at c.requires) refl (certify_answers c.args.line.now c.args.block.now g.0.0 c.answer_certify.ensures))
+    rw c.in-Certify.is (fixed_answers (rw c.in-Certify.is at c.requires) refl (certify_answers c.args.line.now c.args.block.now c.in-Certify.p c.answer_certify.ensures))
 
 pub returns-in-Search : goal.returns-in-Search
 returns-in-Search c =
-    let g = c.q-in-Search-1.given in
-    rw g.1 (fixed_answers (rw g.1 at c.requires) refl (search_answers c.args.line.now c.args.block.now g.0.0 c.answer_search.ensures))
+    rw c.in-Search.is (fixed_answers (rw c.in-Search.is at c.requires) refl (search_answers c.args.line.now c.args.block.now c.in-Search.p c.answer_search.ensures))
 
 pub returns-in-Save : goal.returns-in-Save
 returns-in-Save c =
@@ -70,10 +64,8 @@ returns-in-Save c =
 
 pub returns-in-Round : goal.returns-in-Round
 returns-in-Round c =
-    let g = c.enum_told-in-Round-1.given in
-    rw g.1 (fixed_answers (rw g.1 at c.requires) refl (round_answers c.args.line.now c.args.block.now c.answer_round.ensures))
+    rw c.in-Round.is (fixed_answers (rw c.in-Round.is at c.requires) refl (round_answers c.args.line.now c.args.block.now c.answer_round.ensures))
 
 pub returns-in-Clauses : goal.returns-in-Clauses
 returns-in-Clauses c =
-    let g = c.q-in-Clauses-1.given in
-    rw g.1 (fixed_answers (rw g.1 at c.requires) refl c.answer_clauses.ensures)
+    rw c.in-Clauses.is (fixed_answers (rw c.in-Clauses.is at c.requires) refl c.answer_clauses.ensures)

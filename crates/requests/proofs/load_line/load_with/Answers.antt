@@ -8,10 +8,10 @@ use Rattle.requests.proofs.Outcomes.{load_answers}
 use Rattle.requests.proofs.load_line.load_with.Goals as goal
 
 pub decode-requires : goal.decode-requires
-decode-requires c =  (omega (arith, (load_ready c.requires.asks).sizes_inside, c.requires.sizes_len), omega arith)
+decode-requires c = (omega (arith, (load_ready c.requires.asks).sizes_inside, c.requires.sizes_len), omega arith)
 
 pub decode-requires-2 : goal.decode-requires-2
-decode-requires-2 c =  (omega (arith, (load_ready c.requires.asks).choices_inside, c.requires.sizes_len), omega arith)
+decode-requires-2 c = (omega (arith, (load_ready c.requires.asks).choices_inside, c.requires.sizes_len), omega arith)
 
 pub decode_pairs-requires : goal.decode_pairs-requires
 decode_pairs-requires c =

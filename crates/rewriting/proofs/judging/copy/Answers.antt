@@ -2,7 +2,6 @@
 use mir.Syntax.{w64}
 use borrow.Author.Rules.{rules, sfits_of}
 use mathlib.Core.Path.{refl, sym, ◌∙◌}
-use Prim.Native.Nat.{◌-◌}
 use native.Mathlib.Omega.{arith}
 use lib.Seq.{take_all}
 use mir.Facts.{to_z-of_z}

@@ -2,7 +2,6 @@
 use mathlib.Core.Path.{refl, sym, ap, ◌∙◌}
 use mathlib.Core.List.{List}
 use lib.IntN.{ℤ}
-use Prim.Native.Nat.{◌-◌}
 use native.Mathlib.Omega.{arith}
 use lib.ListN.{length-set}
 use lib.Seq.{take_all}
@@ -23,8 +22,7 @@ kept_number-requires c =
 
 pub loop-p-preserved : goal.loop-p-preserved
 loop-p-preserved c =
-    let l = c.loop-p in
-     (
+    let l = c.loop-p in (
       omega arith,
       length-set {A = ℤ} l.end l.p _ ∙ l.invariant.1,
       turn_back c.args.old.now c.args.end.now l.end l.p c.requires (omega arith) l.invariant.2 c.x-1.given c.y-1.given c.kept_number.ensures,

@@ -1,6 +1,6 @@
 -- What is found so far is the least of the first places of the run, and each turn takes in one more.
 use mathlib.Core.Path.{◌≡◌, sym, ap, ◌∙◌}
-use Prim.Native.Nat.{ℕ, ◌-◌}
+use Prim.Native.Nat.{ℕ}
 use native.Mathlib.Omega.{arith}
 use Rattle.tables.specs.Block.{at, figure}
 use Rattle.tables.specs.WellFormed.{is_open}
@@ -16,13 +16,13 @@ loop-i-init c = (omega arith, sym (found_none _ _))
 
 -- the place of a turn is in the block, and one of T
 pub overflow_mul-p : goal.overflow_mul-p
-overflow_mul-p c =  record { fits = omega (arith, c.requires.0.inside c.loop-i.i (omega arith)) }
+overflow_mul-p c = record { fits = omega (arith, c.requires.0.inside c.loop-i.i (omega arith)) }
 
 pub overflow_add-p : goal.overflow_add-p
-overflow_add-p c =  record { fits = omega (arith, c.requires.0.inside c.loop-i.i (omega arith)) }
+overflow_add-p c = record { fits = omega (arith, c.requires.0.inside c.loop-i.i (omega arith)) }
 
 pub mate_place-requires : goal.mate_place-requires
-mate_place-requires c =  c.requires.1.held c.loop-i.i (omega arith)
+mate_place-requires c = c.requires.1.held c.loop-i.i (omega arith)
 
 pub is_open-counts-requires : goal.is_open-counts-requires
 is_open-counts-requires c =
@@ -30,7 +30,7 @@ is_open-counts-requires c =
     (omega (arith, held-mate (c.requires.1.held c.loop-i.i (omega arith)), c.requires.0.inside c.loop-i.i (omega arith)))
 
 pub parts-x-requires : goal.parts-x-requires
-parts-x-requires c =  c.requires.0.inside c.loop-i.i (omega arith)
+parts-x-requires c = c.requires.0.inside c.loop-i.i (omega arith)
 
 pub loop-i-preserved : goal.loop-i-preserved
 loop-i-preserved c =

@@ -1,7 +1,7 @@
 -- Each turn is one move of a chain from the block as it was at the beginning, so that its shape stays and no number goes far.
 use borrow.Author.Rules.{rules}
 use mathlib.Core.Path.{◌≡◌, refl, sym}
-use Prim.Native.Nat.{◌+◌, ◌-◌, ◌^◌}
+use Prim.Native.Nat.{◌+◌, ◌^◌}
 use native.Mathlib.Omega.{arith}
 use Rattle.theory.proofs.Fold.{iter-zero, iter_turn}
 use Rattle.tables.specs.Block.{held_entries_from, size}

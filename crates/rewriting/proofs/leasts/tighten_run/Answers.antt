@@ -25,7 +25,7 @@ pub overflow_cast-number : goal.overflow_cast-number
 overflow_cast-number c = sfits_of (omega (arith, small c))
 
 pub move_run-requires : goal.move_run-requires
-move_run-requires c =  (c.requires.0, room_more (2 ^ 59) c.requires.2 (omega arith), omega (arith, ap mag (least c), small c))
+move_run-requires c = (c.requires.0, room_more (2 ^ 59) c.requires.2 (omega arith), omega (arith, ap mag (least c), small c))
 
 pub returns : goal.returns
 returns c =

@@ -1,7 +1,7 @@
 -- Every turn meets a place of its own, so that no number grows by more than z: the sums fit.
 use borrow.Author.Rules.{rules}
 use mathlib.Core.Path.{◌≡◌, refl, sym}
-use Prim.Native.Nat.{◌-◌, ◌^◌}
+use Prim.Native.Nat.{◌^◌}
 use native.Mathlib.Omega.{arith}
 use mir.Facts.{to_z-of_z}
 use mir.Syntax.{w64}
@@ -15,10 +15,10 @@ pub loop-i-init : goal.loop-i-init
 loop-i-init c = (omega arith, refl, sym (iter-zero _ _))
 
 pub overflow_mul-run : goal.overflow_mul-run
-overflow_mul-run c =  record { fits = omega (arith, c.requires.0.inside c.loop-i.i (omega arith)) }
+overflow_mul-run c = record { fits = omega (arith, c.requires.0.inside c.loop-i.i (omega arith)) }
 
 pub overflow_add-run : goal.overflow_add-run
-overflow_add-run c =  record { fits = omega (arith, c.requires.0.inside c.loop-i.i (omega arith)) }
+overflow_add-run c = record { fits = omega (arith, c.requires.0.inside c.loop-i.i (omega arith)) }
 
 pub add_at-requires : goal.add_at-requires
 add_at-requires c =

@@ -20,7 +20,7 @@ negated-requires c = rw (to_z-of_z c.ranges.alpha) (omega arith)
 
 -- what is taken off the run is small
 size_of : (c : After-negated) → mag c.negated.result ≤ 2 ^ 58 + 1
-size_of c =  omega (arith, rw (to_z-of_z c.ranges.alpha) at c.negated.ensures.1, c.requires.2)
+size_of c = omega (arith, rw (to_z-of_z c.ranges.alpha) at c.negated.ensures.1, c.requires.2)
 
 small : (c : After-negated) → to_z w64 (of_z w64 c.negated.result) ≡ c.negated.result
 small c = back c.negated.result (omega (arith, size_of c))

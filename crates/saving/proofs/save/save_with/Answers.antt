@@ -11,7 +11,8 @@ scale-scale-requires c = let s = c.requires.study.0 in (s.whole, (scale_range s)
 
 pub write_load-requires : goal.write_load-requires
 write_load-requires c =
-    read_writes c.requires.study.0 (read_as c.args.block.now c.scale-scale.ensures c.numbers.ensures) _ c.requires.study.1
+    let w = read_writes c.requires.study.0 (read_as c.args.block.now c.scale-scale.ensures c.numbers.ensures) _ c.requires.study.1 in
+    record { in_range = w.0; entries_in_bounds = w.1 }
 
 pub returns : goal.returns
 returns c =

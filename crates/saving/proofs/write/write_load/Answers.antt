@@ -20,22 +20,23 @@ head-end : (c : After-write_head-head_end) → c.write_head-head_end.result ≡ 
 head-end c = let a = c.args in c.write_head-head_end.ensures.count ∙ head_length a.scale.0 a.sizes.now
 
 pub write_run-choices_end-requires : goal.write_run-choices_end-requires
-write_run-choices_end-requires c =  omega (arith, head-end (goal.at.write_run-choices_end-requires c).After-write_head-head_end, c.requires.entries_in_bounds)
+write_run-choices_end-requires c = omega (arith, head-end (goal.at.write_run-choices_end-requires c).After-write_head-head_end, c.requires.entries_in_bounds)
 
 -- where the choices end
-choices-end : (c : After-write_run-choices_end) → c.write_run-choices_end.result ≡ 2 * (size_field.at + count_width * length c.args.sizes.now + cost_width * length c.args.choices.now)
-choices-end c =
-    let h = head-end c.before.before.before.before in
+choices-end : (c : After-write_run-choices_end)
+    → c.write_head-head_end.result ≡ 2 * (size_field.at + count_width * length c.args.sizes.now)
+    → c.write_run-choices_end.result ≡ 2 * (size_field.at + count_width * length c.args.sizes.now + cost_width * length c.args.choices.now)
+choices-end c h =
     omega (arith, h, wrote_end {at = c.write_head-head_end.result} _ c.write_run-choices_end.ensures (omega (arith, h, c.requires.entries_in_bounds)), run_length cost_width (length c.args.choices.now) (λ k. nth c.args.choices.now (0 + k)) [])
 
 pub put_field-count_end-requires : goal.put_field-count_end-requires
-put_field-count_end-requires c =  omega (arith, choices-end (goal.at.put_field-count_end-requires c).After-write_run-choices_end, c.requires.entries_in_bounds)
+put_field-count_end-requires c = omega (arith, choices-end (goal.at.put_field-count_end-requires c).After-write_run-choices_end (head-end (goal.at.put_field-count_end-requires c).After-write_head-head_end), c.requires.entries_in_bounds)
 
 pub write_pairs-requires : goal.write_pairs-requires
 write_pairs-requires c =
     let r = c.requires.in_range in record {
       sizes_in = (in_sizes r, in_pairs r (length c.args.sizes.now) (omega arith));
-      entries_len = (r.entries, omega (arith, choices-end (goal.at.write_pairs-requires c).After-write_run-choices_end, c.put_field-count_end.ensures.0, c.requires.entries_in_bounds));
+      entries_len = (r.entries, omega (arith, choices-end (goal.at.write_pairs-requires c).After-write_run-choices_end (head-end (goal.at.write_pairs-requires c).After-write_head-head_end), c.put_field-count_end.ensures.0, c.requires.entries_in_bounds));
     }
 
 pub returns : goal.returns

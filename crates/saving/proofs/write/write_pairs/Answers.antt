@@ -2,7 +2,7 @@
 use borrow.Author.Rules.{rules}
 use mathlib.Core.Path.{◌≡◌, refl, sym, ap, ◌∙◌}
 use mathlib.Core.List.{List, [], ◌++◌, append-nil}
-use Prim.Native.Nat.{ℕ, ◌+◌, ◌*◌, ◌-◌, ◌<◌, ◌≤◌}
+use Prim.Native.Nat.{ℕ, ◌+◌, ◌*◌, ◌<◌, ◌≤◌}
 use native.Mathlib.Nat.{mul-le-mul}
 use native.Mathlib.Omega.{arith}
 use lib.ListN.{length, take}
@@ -18,11 +18,12 @@ use Rattle.lines.specs.Text.{pairs_digits}
 use Rattle.replies.proofs.Writing.{wrote_as, wrote_front, wrote_through}
 use Rattle.lines.proofs.Pairs.{pairs_none, pairs_turn, pair_at_lem, pair_run_length}
 use Rattle.saving.proofs.Writing.{wrote_end}
-use Rattle.saving.proofs.write.write_pairs.Goals.{In-loop-k, Start}
+use Rattle.saving.proofs.write.write_pairs.Goals.{In-loop-k}
 use Rattle.saving.proofs.write.write_pairs.Goals as goal
 
-abbrev shape : Start → Shape
-shape s = list_shape s.args.sizes.now s.args.firsts.now s.args.seconds.now
+-- the shape of the lists
+abbrev shape : In-loop-k → Shape
+shape c = list_shape c.args.sizes.now c.args.firsts.now c.args.seconds.now
 
 pub loop-k-init : goal.loop-k-init
 loop-k-init c =
@@ -31,16 +32,16 @@ loop-k-init c =
       sym (sum_none _),
       omega arith,
       search rules,
-      wrote_as (wrote_front a.reply.now a.at (omega arith)) (sym (rw (pairs_none (shape (goal.at.loop-k-init c).Start) a.entries.now []) (append-nil (take a.at a.reply.now)))),
+      wrote_as (wrote_front a.reply.now a.at (omega arith)) (sym (rw (pairs_none (list_shape a.sizes.now a.firsts.now a.seconds.now) a.entries.now []) (append-nil (take a.at a.reply.now)))),
     )
 
 -- the trains of pair k are there, and so are its costs
 known : (c : In-loop-k)
-    → ((shape c.before.before.before.before.before.before.before).first c.loop-k.k < length c.args.sizes.now)
-    × ((shape c.before.before.before.before.before.before.before).second c.loop-k.k < length c.args.sizes.now)
-    × (rows_of (shape c.before.before.before.before.before.before.before) c.loop-k.k ≤ max_choices)
-    × (columns_of (shape c.before.before.before.before.before.before.before) c.loop-k.k ≤ max_choices)
-    × (c.loop-k.start + pair_entries (shape c.before.before.before.before.before.before.before) c.loop-k.k ≤ length c.args.entries.now)
+    → ((shape c).first c.loop-k.k < length c.args.sizes.now)
+    × ((shape c).second c.loop-k.k < length c.args.sizes.now)
+    × (rows_of (shape c) c.loop-k.k ≤ max_choices)
+    × (columns_of (shape c) c.loop-k.k ≤ max_choices)
+    × (c.loop-k.start + pair_entries (shape c) c.loop-k.k ≤ length c.args.entries.now)
 known c =
     let k = c.loop-k.k in
     let first = c.requires.sizes_in.1.first k c.loop-k-test.true in
@@ -49,11 +50,11 @@ known c =
       second,
       c.requires.sizes_in.0.small _ first,
       c.requires.sizes_in.0.small _ second,
-      omega (arith, c.loop-k.invariant.1, c.requires.entries_len.0, entries_part (shape c.before.before.before.before.before.before.before) k (length c.args.firsts.now) c.loop-k-test.true),
+      omega (arith, c.loop-k.invariant.1, c.requires.entries_len.0, entries_part (shape c) k (length c.args.firsts.now) c.loop-k-test.true),
     )
 
 pub bounds-seconds-k : goal.bounds-seconds-k
-bounds-seconds-k c =  omega (arith, c.requires.sizes_in.1.same, c.loop-k-test.true)
+bounds-seconds-k c = omega (arith, c.requires.sizes_in.1.same, c.loop-k-test.true)
 
 pub offset_bounds-sizes-i : goal.offset_bounds-sizes-i
 offset_bounds-sizes-i c = omega (arith, known (goal.at.offset_bounds-sizes-i c).In-loop-k)
@@ -72,11 +73,11 @@ overflow_mul-count c = let w = known (goal.at.overflow_mul-count c).In-loop-k in
 
 -- there is room for the pair
 room : (c : In-loop-k)
-    → c.loop-k.end + 2 * (pair_width + cost_width * pair_entries (shape c.before.before.before.before.before.before.before) c.loop-k.k) ≤ length c.loop-k.reply
+    → c.loop-k.end + 2 * (pair_width + cost_width * pair_entries (shape c) c.loop-k.k) ≤ length c.loop-k.reply
 room c = omega (arith, (known c).4, c.loop-k.invariant, c.requires.entries_len.1, c.loop-k-test.true)
 
 pub write_pair-end-requires : goal.write_pair-end-requires
-write_pair-end-requires c =  (room (goal.at.write_pair-end-requires c).In-loop-k, (known (goal.at.write_pair-end-requires c).In-loop-k).4)
+write_pair-end-requires c = (room (goal.at.write_pair-end-requires c).In-loop-k, (known (goal.at.write_pair-end-requires c).In-loop-k).4)
 
 pub overflow_add-start : goal.overflow_add-start
 overflow_add-start c = let w = known (goal.at.overflow_add-start c).In-loop-k in omega (arith, w.4)
@@ -84,7 +85,7 @@ overflow_add-start c = let w = known (goal.at.overflow_add-start c).In-loop-k in
 pub loop-k-preserved : goal.loop-k-preserved
 loop-k-preserved c =
     let a = c.args in
-    let s = shape (goal.at.loop-k-preserved c).Start in
+    let s = list_shape a.sizes.now a.firsts.now a.seconds.now in
     let k = c.loop-k.k in
     let count = pair_entries s k in
     let w = c.write_pair-end.ensures in

@@ -2,7 +2,7 @@
 use borrow.Author.Rules.{rules}
 use mathlib.Core.Path.{◌≡◌, refl, sym}
 use mathlib.Core.List.{List, [], append-nil}
-use Prim.Native.Nat.{ℕ, ◌+◌, ◌-◌}
+use Prim.Native.Nat.{ℕ, ◌+◌}
 use native.Mathlib.Nat.{mul-zero, mul-suc}
 use native.Mathlib.Numerals.{add-one}
 use native.Mathlib.Omega.{arith}
@@ -17,13 +17,12 @@ abbrev number : List ℕ → ℕ → ℕ → ℕ
 number list from k = nth list (from + k)
 
 pub loop-k-init : goal.loop-k-init
-loop-k-init c =
-     (
-      omega arith,
-      omega (arith, mul-zero c.args.width),
-      search rules,
-      wrote_as (wrote_front c.args.reply.now c.args.at (omega arith)) (sym (rw (run_none c.args.width (number c.args.list.now c.args.from) []) (append-nil (take c.args.at c.args.reply.now)))),
-    )
+loop-k-init c = (
+  omega arith,
+  omega (arith, mul-zero c.args.width),
+  search rules,
+  wrote_as (wrote_front c.args.reply.now c.args.at (omega arith)) (sym (rw (run_none c.args.width (number c.args.list.now c.args.from) []) (append-nil (take c.args.at c.args.reply.now)))),
+)
 
 pub put_field-end-requires : goal.put_field-end-requires
 put_field-end-requires c =

@@ -111,7 +111,7 @@ try_choice-returns-then-left-le1 t c =
 pub try_choice-returns-then-best-parts : goal.try_choice-returns-then-best-parts
 try_choice-returns-then-best-parts t c =
     record {
-      walk = λ b budget p m. held-dropped b budget c.args.t c.args.a c.args.total.0 c.args.left c.args.best.now c.args.chosen.now c.args.plan.now m c.requires.going c.if-left-le1.false (rw c.number-parts.ensures at c.if-best-parts.true);
+      walk = λ b budget p m. held-dropped b budget c.args.t c.args.a c.args.total.0 c.args.left c.args.best.now c.args.chosen.now c.args.plan.now m c.requires.going (omega arith) (rw c.number-parts.ensures at c.if-best-parts.true);
       fewer = omega arith;
       going = record { unmet = λ h. c.requires.going.unmet (omega arith); low = c.requires.going.low };
       kept = alike_refl _ _ _;
@@ -139,7 +139,7 @@ try_choice-returns-then-u-table t c =
     let e = c.number-parts.ensures in
     let k = c.become_best.ensures in
     record {
-      walk = λ b budget p m. held_whole b budget c.args.t c.args.a c.args.total.0 c.args.left c.args.best.now c.args.chosen.now c.args.plan.now m c.requires.going c.if-left-le1.false (rw e at c.if-best-parts.false) (c.if-u-table.true ∙ p.laid.n) (rw (laid-meets p.laid c.args.total.0) at k);
+      walk = λ b budget p m. held_whole b budget c.args.t c.args.a c.args.total.0 c.args.left c.args.best.now c.args.chosen.now c.args.plan.now m c.requires.going (omega arith) (rw e at c.if-best-parts.false) (c.if-u-table.true ∙ p.laid.n) (rw (laid-meets p.laid c.args.total.0) at k);
       fewer = omega (arith, becomes_left k);
       going = becomes_going k (omega (arith, e, c.requires.going.low, c.if-best-parts.false));
       kept = alike_set _ _ _ _ (omega (arith, q.train, q.laid.n));
@@ -176,7 +176,7 @@ try_choice-returns t c =
     record {
       walk = λ b budget p m.
           let h : c.args.t + 1 < trains b = omega (arith, p.train, p.laid.n, c.if-u-table.false) in
-          held_opens b budget c.args.t c.args.a c.args.total.0 c.args.left c.args.best.now c.args.chosen.now c.args.plan.now m o.going c.if-left-le1.false (rw c.number-parts.ensures at c.if-best-parts.false) p.study h (p.decided low)
+          held_opens b budget c.args.t c.args.a c.args.total.0 c.args.left c.args.best.now c.args.chosen.now c.args.plan.now m o.going (omega arith) (rw c.number-parts.ensures at c.if-best-parts.false) p.study h (p.decided low)
           (r.walk b budget (record { study = p.study; laid = p.laid; train = h; decided = p.decided low; summed = d.summed b (carrying_at p low) }) (omega arith));
       fewer = omega (arith, r.fewer);
       going = r.going;

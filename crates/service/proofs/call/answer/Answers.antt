@@ -8,7 +8,7 @@ slice_bounds-result-end c = sym (wrote_length c.respond-n.ensures.reply)
 
 pub returns : goal.returns
 returns c = let e = c.respond-n.ensures in record {
-      result_value = wrote_taken e.reply;
-      block_after = e.block;
-      ref_ptr_value = refl;
-    }
+  result_value = wrote_taken e.reply;
+  block_after = e.block;
+  ref_ptr_value = refl;
+}

@@ -1,7 +1,6 @@
 -- The bytes so far have no line feed, so the line's length is what was counted and the length from there on.
 use borrow.Author.Tests.{eq-eqb, ne_eqb}
 use mathlib.Core.Path.{◌≡◌}
-use Prim.Native.Nat.{◌-◌}
 use native.Mathlib.Omega.{arith}
 use lib.ListN.{length}
 use Rattle.stream.proofs.Lines.{line_ends_lem, line_goes_on, none_left}

@@ -7,9 +7,9 @@ use Rattle.stream.proofs.splitting.next_line.Goals as goal
 
 pub keep-length-requires : goal.keep-length-requires
 keep-length-requires c = record {
-      n_in_bounds = omega (arith, line_length_most c.args.part.now);
-      kept_in_bounds = search rules;
-    }
+  n_in_bounds = omega (arith, line_length_most c.args.part.now);
+  kept_in_bounds = search rules;
+}
 
 pub returns-then-n-part : goal.returns-then-n-part
 returns-then-n-part c =
@@ -22,4 +22,4 @@ overflow_add-result c =
 pub returns : goal.returns
 returns c =
     let k = c.keep-length in
-    steps_ended c.args.line.now c.args.kept c.args.block.now c.args.part.now c.args.reply.now (search rules) c.requires c.line_length-n.ensures k.ensures.0 k.ensures.1 c.if-n-part.false c.reply_line-written.ensures
+    steps_ended c.args.line.now c.args.kept c.args.block.now c.args.part.now c.args.reply.now (search rules) c.requires c.line_length-n.ensures k.ensures.value k.ensures.line_after c.if-n-part.false c.reply_line-written.ensures
