@@ -1,5 +1,5 @@
 -- Which answers of searches the rule of the bound changes: after a list of calls every plan's total is s times its cost, and the bound exceeds no plan's cost, so that a plan that meets the bound is
--- one that no plan is below (`search-sooner` in `search`).
+-- one that no plan is below (`search_sooner` in `search`).
 use Rattle.search.proofs.Stopping.{search_sooner}
 use Rattle.claims.specs.Ledger.{cost_of}
 use Rattle.claims.specs.Stops.{SearchesSooner}

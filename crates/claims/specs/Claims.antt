@@ -58,33 +58,33 @@ reaches b reply = eqb (weighted_shown reply) (full_weight_shown reply * constant
 
 -- 'Kinds 01 to 04: .. c0 in parts (6), bound in points (6)'
 pub record BoundClaim (g : Ledger) (e : Exchange) : Type 0 where
-  -- 'Each bound that a reply shows beside c0 was, at its own line, at most every plan's cost' (`tightened-bound`, `high-bound`)
+  -- 'Each bound that a reply shows beside c0 was, at its own line, at most every plan's cost' (`tightened_bound`, `high_bound`)
   pub bound : (x : ℕ → ℕ) → PlanOf g x → bound_shown e.reply ≤ cost_of g x
 
 -- 'Certify: .. 01 if reached else 00, E (8), W (3)', the call having had the block b
 pub record CeilingClaim (g : Ledger) (b : List ℤ) (e : Exchange) : Type 0 where
-  -- 'The ceiling is E/W parts': W is above 0 (`no-full-weight`)
+  -- 'The ceiling is E/W parts': W is above 0 (`no_full_weight`)
   pub full_weight : 0 < full_weight_shown e.reply
-  -- 'W × the constant of every rival is at most E', where nothing is forbidden: 'Without forbidden entries it reads as before' (`certified-ceiling`, `low-ceiling`). With forbidden entries it fails
-  -- (`clique-wider`)
+  -- 'W × the constant of every rival is at most E', where nothing is forbidden: 'Without forbidden entries it reads as before' (`certified-ceiling`, `low_ceiling`). With forbidden entries it fails
+  -- (`clique_wider`)
   pub ceiling : Open g.shape → (r : Rival) → IsRival g.shape (scaled_cost g) r → ConstantAtMost (full_weight_shown e.reply) (weighted_shown e.reply) r
   -- 'Start from s × the ledger's costs at that line and constant 0, and make any set of lifts and moves together, fractions allowed, that leaves no permitted entry below 0: the ceiling is at least the
-  -- constant that results', on every study (`low-moved`, `clique-ceiling`)
+  -- constant that results', on every study (`low_moved`, `clique_ceiling`)
   pub moved_ceiling : (up down : Amounts) → Leaves g.shape (start_costs g) up down → LiftsAtMost g.shape (full_weight_shown e.reply) (weighted_shown e.reply) up down
-  -- '01 if reached else 00' (`not-reached`, `reached-above`)
+  -- '01 if reached else 00' (`not_reached`, `reached_above`)
   pub reached : flag_shown e.reply ≡ flag (reaches b e.reply)
 
 -- 'Search: .. 01 ended or 00 spent, count (4), cost (6), one byte a train'; change 5: 02. Of a search that is spent and shows no plan nothing is claimed
 pub record SearchClaim (g : Ledger) (e : Exchange) : Type 0 where
-  -- 'every search reply that shows a plan, as each that says ended (01) does' (`ended-without-plan`)
+  -- 'every search reply that shows a plan, as each that says ended (01) does' (`ended_without_plan`)
   pub ended : says_ended e.reply ≡ true → shows_plan e.reply ≡ true
-  -- 'the cost shown is, at that line, that plan's cost' (`absent-choice`, `other-cost`)
+  -- 'the cost shown is, at that line, that plan's cost' (`absent_choice`, `other_cost`)
   pub shown : shows_plan e.reply ≡ true → PlanOf g (plan_shown e.reply) × (cost_shown e.reply ≡ cost_of g (plan_shown e.reply))
-  -- 'If it says ended, every other plan costs, at that line, at least as much' (`worse-plan`)
+  -- 'If it says ended, every other plan costs, at that line, at least as much' (`worse_plan`)
   pub least : says_ended e.reply ≡ true → (x : ℕ → ℕ) → PlanOf g x → cost_shown e.reply ≤ cost_of g x
-  -- change 5: 'A search that ends without a plan says 02, with cost and plan FF' (`without-cost`, `without-plan`)
+  -- change 5: 'A search that ends without a plan says 02, with cost and plan FF' (`without_cost`, `without_plan`)
   pub blank : says_ended_without e.reply ≡ true → (shows_plan e.reply ≡ false) × ((i : ℕ) → i < g.shape.trains → plan_shown e.reply i ≡ 256 ^ choice_width - 1)
-  -- 'and then no plan exists' (`without-on-j`, `clique-without`)
+  -- 'and then no plan exists' (`without_on_j`, `clique_without`)
   pub none : says_ended_without e.reply ≡ true → (x : ℕ → ℕ) → PlanOf g x → ⊥
 
 -- two ledgers know the same study: n, s, sizes and pairs, what is forbidden, and the costs of the choices and entries that there are
@@ -96,27 +96,27 @@ pub record SameLedger (h g : Ledger) : Type 0 where
 
 -- document 02, change 1: the reply to a save is a load line
 pub record SaveClaim (g : Ledger) (e : Exchange) : Type 0 where
-  -- that every block takes (`long-save`)
+  -- that every block takes (`long_save`)
   pub taken : (b : List ℤ) → line_of e.reply b ≡ Asked (load_request e.reply)
-  -- read as a load line, its reply gives the ledger's n, s, sizes, pairs and costs at that line (`other-save`)
+  -- read as a load line, its reply gives the ledger's n, s, sizes, pairs and costs at that line (`other_save`)
   pub gives : SameLedger (numbers_ledger (numbers_of e.reply)) g
 
 -- document 02, change 4: 'The reply is 88 with constant and bound'
 pub record RoundClaim (g : Ledger) (e : Exchange) : Type 0 where
-  -- 'The lists of demand 3 now include this line': its bound is one 'that a reply shows beside c0' (`high-round`)
+  -- 'The lists of demand 3 now include this line': its bound is one 'that a reply shows beside c0' (`high_round`)
   pub bound : BoundClaim g e
-  -- 'Where every train has at most one partner of lower number, the constant afterwards equals the least total of any plan', s × the least cost: the bound is the least cost (`low-constant`, `low-round`,
-  -- `settled-round`). Change 5: 'its least-total equality is kept for studies without forbidden entries'
+  -- 'Where every train has at most one partner of lower number, the constant afterwards equals the least total of any plan', s × the least cost: the bound is the least cost (`low_constant`, `low_round`,
+  -- `settled_round`). Change 5: 'its least-total equality is kept for studies without forbidden entries'
   pub settled : Open g.shape → Branches g.shape → (constant_shown e.reply ≡ g.scale * bound_shown e.reply) × LeastOf g.shape (cost_of g) (bound_shown e.reply)
 
 -- document 02, change 7: 'The reply is 89 as for a load'
 pub record ClausesClaim (g : Ledger) (e : Exchange) : Type 0 where
-  -- its bound is one 'that a reply shows beside c0' (`high-clauses`)
+  -- its bound is one 'that a reply shows beside c0' (`high_clauses`)
   pub bound_shown_lem : BoundClaim g e
-  -- 'Each plan's total in H must be the weights of the clauses it fails', by the literals of the line (`other-weights`)
+  -- 'Each plan's total in H must be the weights of the clauses it fails', by the literals of the line (`other_weights`)
   pub weights : (x : ℕ → ℕ) → PlanOf g x → cost_of g x ≡ failed_weight (clauses_of e.line) x
 
--- each kind's own (`high-bound`, `high-added`, `high-shifted`, `high-tightened`)
+-- each kind's own (`high_bound`, `high_added`, `high_shifted`, `high_tightened`)
 abbrev pub Claim : Kind → Ledger → List ℤ → Exchange → Type 0
 Claim Load g b e = BoundClaim g e
 Claim Add g b e = BoundClaim g e
@@ -144,7 +144,7 @@ pub record AtLine (g : Ledger) (b : List ℤ) (e : Exchange) : Type 0 where
   -- 'The first byte is the kind': an accepted line has one (`no_kind`)
   pub kind : Kind
   pub known : new_kind (kind_of e.line) ≡ Known kind
-  -- it is answered under its own kind (`other-kind`, `save-under-87`)
+  -- it is answered under its own kind (`other_kind`, `save_under_87`)
   pub answered : kind_shown e.reply ≡ shown_kind kind
   -- and what its kind claims holds
   pub claim : Claim kind g b e
@@ -166,12 +166,12 @@ never_outside Clauses = false
 pub record AtCall (g : Ledger) (b : List ℤ) (e : Exchange) : Type 0 where
   -- 'A line is accepted if its reply isn't empty and doesn't begin with FF'
   pub line : accepted e.reply ≡ true → AtLine g b e
-  -- 'From fresh by these lines only' (`add-outside`, `tighten-outside`, `round-outside`). Change 5: 'Add, tighten and the directional round may now give 12'
+  -- 'From fresh by these lines only' (`add-outside`, `tighten_outside`, `round_outside`). Change 5: 'Add, tighten and the directional round may now give 12'
   pub never-outside : by_kind never_outside false e.line ≡ true → Open g.shape → DeclinedAs outside e.reply → ⊥
-  -- no line of a list gives 16: each has 'the block that the call before left', 'the first has a fresh block' (`no-malformed`)
+  -- no line of a list gives 16: each has 'the block that the call before left', 'the first has a fresh block' (`no_malformed`)
   pub never-malformed : DeclinedAs malformed e.reply → ⊥
 
--- the same of every call of a list, of as many blocks as lines, each by the ledger after its line (`last-call`, `as-many-blocks`)
+-- the same of every call of a list, of as many blocks as lines, each by the ledger after its line (`last_call`, `as_many_blocks`)
 unfoldable pub EachCall : Ledger → List (List ℤ) → List Exchange → Type 0
 EachCall g [] [] = Unit {0}
 EachCall g [] (e ∷ es) = ⊥
@@ -182,13 +182,13 @@ EachCall g (b ∷ bs) (e ∷ es) = AtCall (fed e g) b e × EachCall (fed e g) bs
 
 -- the block b holds the ledger's study
 pub record SameStudy (g : Ledger) (b : List ℤ) : Type 0 where
-  -- 'the block's n, s, sizes and pairs are the ledger's' (`j-shape`), and so is what is forbidden: change 5, 'in the ledger too' (`d-forbidden`, `clique-forbidden`). H says it here
+  -- 'the block's n, s, sizes and pairs are the ledger's' (`j_shape`), and so is what is forbidden: change 5, 'in the ledger too' (`d_forbidden`, `clique_forbidden`). H says it here
   pub shape_same : AlikeShapes (shape_of b) g.shape
   pub scale_same : scale b ≡ g.scale
-  -- 'Loaded costs H' are the ledger's 'costs in points' (`j-costs`)
+  -- 'Loaded costs H' are the ledger's 'costs in points' (`j_costs`)
   pub choices_same : (i a : ℕ) → i < trains b → a < size b i → loaded_choice b i a ≡ g.costs.choice i a
   pub entries_same : (k a c : ℕ) → k < pairs b → a < size b (first b k) → c < size b (second b k) → loaded_entry b k a c ≡ g.costs.pair k a c
-  -- and T as H: 'H and T hold −1' (`d-forbidden`, `clique-forbidden`)
+  -- and T as H: 'H and T hold −1' (`d_forbidden`, `clique_forbidden`)
   pub held_choices_open : (i a : ℕ) → i < trains b → a < size b i → is_open (at b (held_choice_place i a)) ≡ g.shape.choice_open i a
   pub held_entries_open : (k a c : ℕ) → k < pairs b → a < size b (first b k) → c < size b (second b k) → is_open (at b (held_entry_place k a c)) ≡ g.shape.entry_open k a c
 
@@ -196,12 +196,12 @@ pub record AfterList (g : Ledger) (b : List ℤ) : Type 0 where
   pub same : SameStudy g b
   -- 'every plan's total by c0 and T is s × its cost' (`j-total`); change 5: 'Totals are kept for plans'
   pub totals : (x : ℕ → ℕ) → PlanOf g x → held_total b x ≡ scaled_cost g x
-  -- 'the published bound is at most every plan's cost' (`j-bound`)
+  -- 'the published bound is at most every plan's cost' (`j_bound`)
   pub bound : (x : ℕ → ℕ) → PlanOf g x → bound_of b ≤ cost_of g x
 
 -- of calls that had the blocks bs, whose lines with their replies are es, and which left the block b: 'one claim about the whole list'
 pub record Claimed (bs : List (List ℤ)) (es : List Exchange) (b : List ℤ) : Type 0 where
-  -- with a load in the list or without, so that no later line gives 16 (`next-line`)
+  -- with a load in the list or without, so that no later line gives 16 (`next_line_lem`)
   pub right : well_formed b ≡ true
   -- 'Claimed of every list with an accepted load' (`after`)
   pub after : has_load es ≡ true → AfterList (ledger_of empty_ledger es) b

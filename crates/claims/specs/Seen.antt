@@ -36,6 +36,6 @@ unfoldable pub seen_last : List ℤ → List Seen → List ℤ
 seen_last b [] = b
 seen_last b (s ∷ ss) = seen_last s.block_after ss
 
--- demand 3 of what a caller saw, from a fresh block: all that `Demand` claims (`seen-bound` in proofs/Uses.antt)
+-- demand 3 of what a caller saw, from a fresh block: all that `Demand` claims (`seen_bound` in proofs/Uses.antt)
 abbrev pub SeenDemand : List Seen → Type 0
 SeenDemand seen = Claimed (seen_blocks seen) (seen_exchanges seen) (seen_last fresh_block seen)

@@ -1,4 +1,4 @@
--- The ways an answer can come about, in the order of the tests: 17, 16, the line, of which a late 17 is one (`line-cases` in requests). Whatever holds of each holds of every answer.
+-- The ways an answer can come about, in the order of the tests: 17, 16, the line, of which a late 17 is one (`line_cases` in requests). Whatever holds of each holds of every answer.
 use mathlib.Core.Path.{◌≡◌, refl}
 use mathlib.Core.Bool.{Bool, true, false, cond}
 use mathlib.Core.List.{List, []}

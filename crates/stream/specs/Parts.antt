@@ -1,5 +1,5 @@
 -- The same by parts, as reads give them: what one step takes of a part and what is kept for the next. proofs/Whole.antt says that it comes to `printed` of the whole
--- input, however the input is cut into parts (`printed-by-parts`), and that what is printed so far is a front of that, however the input goes on (`printed-so-far`).
+-- input, however the input is cut into parts (`printed_by_parts`), and that what is printed so far is a front of that, however the input goes on (`printed_so_far`).
 use Rattle.std.specs.Prelude.{cond, List, [], ◌∷◌, ◌++◌, ℕ, zero, suc, ◌+◌, ltb, eqb, ℤ, length, take, drop}
 use Rattle.tables.specs.WellFormed.{fresh_block}
 use Rattle.frames.specs.Frames.{max_characters}
