@@ -31,7 +31,7 @@ use Rattle.lines.specs.declared.request.Shift.{Shift}
 use Rattle.lines.specs.declared.request.Search.{Search}
 use Rattle.lines.specs.declared.request.Certify.{Certify}
 use Rattle.lines.specs.declared.request.Clauses.{Clauses as ClauseFields}
-use Rattle.lines.specs.declared.request.Request.TheVariants.{Load as load_of, Add as add-of, Shift as Shift-of, Tighten as tighten-of, Certify as certify-of, Search as search-of, Save as save-of, Round as round-of, Clauses as clauses-of}
+use Rattle.lines.specs.declared.request.Request.TheVariants.{Load as load_of, Add as add_of, Shift as shift_of, Tighten as tighten_of, Certify as certify_of, Search as search_of, Save as save_of, Round as round_of, Clauses as clauses_request}
 use Rattle.lines.specs.Layout.{move_width, weight_width, load_trains, load_scale}
 use Rattle.decoding.specs.Numbers.{numbers_of}
 use Rattle.decoding.specs.Clauses.{clauses_of, clause_numbers_of}
@@ -57,14 +57,14 @@ operated_answers kind o old new {p} {left} {buffer} {after} {n} e f w = record {
 
 -- a certificate, by the weights that were read
 pub certify_answer : (l : List ℕ) (b : List ℤ) (q : Certify) {n : ℕ} {ws : List ℕ} {c : Certificate} → n ≡ q.weights.count → ws ≡ run_of l q.weights.at weight_width n
-    → c ≡ certificate b (weights_of b q.full ws) → requested (certify-of q) l b ≡ certified q.full c b
+    → c ≡ certificate b (weights_of b q.full ws) → requested (certify_of q) l b ≡ certified q.full c b
 unfolding requested
 certify_answer l b q e f g = rw (g, f, e)
 
 -- a shift, by the lifts and moves that were read
 pub shift_answers : (l : List ℕ) (b : List ℤ) (q : Shift) {n m : ℕ} {ls ms : List ℤ} {o : Verdict} {left : List ℤ} {buffer after : List ℕ} {k : ℕ} → n ≡ q.lifts.count → m ≡ q.moves.count
     → ls ≡ signed_run_of l q.lifts.at move_width n → ms ≡ signed_run_of l q.moves.at move_width m → o ≡ shift_outcome ls ms b → left ≡ shift_block ls ms b
-    → Wrote buffer (operated kind.Shift o left left).reply after k → Answers (requested (Shift-of q) l b) buffer left after k
+    → Wrote buffer (operated kind.Shift o left left).reply after k → Answers (requested (shift_of q) l b) buffer left after k
 unfolding requested
 shift_answers l b q en em els ems eo eb w =
     let lifts = signed_run_of l q.lifts.at move_width q.lifts.count in
@@ -80,7 +80,7 @@ load_answers l b q e f w = record { block = f ∙ ap loaded_block e; reply = rw 
 -- a study written as clauses, by the clauses that were read
 pub clauses_answers : (l : List ℕ) (b : List ℤ) (q : ClauseFields) {cs : Clauses} {o : Verdict} {left : List ℤ} {buffer after : List ℕ} {n : ℕ} → q.trains ≡ load_trains l → q.scale.0 ≡ load_scale l
     → cs ≡ clauses_of l → o ≡ clauses_outcome q.trains q.scale.0 cs → left ≡ clauses_block q.trains q.scale.0 cs b
-    → Wrote buffer (operated kind.Clauses o left left).reply after n → Answers (requested (clauses-of q) l b) buffer left after n
+    → Wrote buffer (operated kind.Clauses o left left).reply after n → Answers (requested (clauses_request q) l b) buffer left after n
 unfolding requested
 clauses_answers l b q et es ec eo eb w =
     operated_answers kind.Clauses (clauses_outcome q.trains q.scale.0 (clauses_of l)) b (loaded_block (clause_numbers_of l)) (rw ec at eo) (rw (et, es) (rw (ec, et, es) at eb)) w
@@ -89,17 +89,17 @@ clauses_answers l b q et es ec eo eb w =
 
 pub add_answers : (l : List ℕ) (b : List ℤ) (q : Add) {left : List ℤ} {buffer after : List ℕ} {n : ℕ}
     → Answers (operated kind.Add (add_outcome q.train q.choice q.points.0 b) b (added q.train q.choice q.points.0 b)) buffer left after n
-    → Answers (requested (add-of q) l b) buffer left after n
+    → Answers (requested (add_of q) l b) buffer left after n
 unfolding requested
 add_answers l b q a = a
 
 pub tighten_answers : (l : List ℕ) (b : List ℤ) {left : List ℤ} {buffer after : List ℕ} {n : ℕ}
-    → Answers (operated kind.Tighten (tighten_outcome b) b (kept b (tightened b))) buffer left after n → Answers (requested tighten-of l b) buffer left after n
+    → Answers (operated kind.Tighten (tighten_outcome b) b (kept b (tightened b))) buffer left after n → Answers (requested tighten_of l b) buffer left after n
 unfolding requested
 tighten_answers l b a = a
 
 pub round_answers : (l : List ℕ) (b : List ℤ) {left : List ℤ} {buffer after : List ℕ} {n : ℕ}
-    → Answers (operated kind.Round (direct_outcome b) b (kept b (directed b))) buffer left after n → Answers (requested round-of l b) buffer left after n
+    → Answers (operated kind.Round (direct_outcome b) b (kept b (directed b))) buffer left after n → Answers (requested round_of l b) buffer left after n
 unfolding requested
 round_answers l b a = a
 
@@ -109,14 +109,14 @@ certified_leaves full_weight Unbalanced b = refl
 certified_leaves full_weight Forbidden b = refl
 certified_leaves full_weight (Balanced c) b = refl
 
-pub certify_answers : (l : List ℕ) (b : List ℤ) (q : Certify) {buffer after : List ℕ} {n : ℕ} → Wrote buffer (requested (certify-of q) l b).reply after n
-    → Answers (requested (certify-of q) l b) buffer b after n
+pub certify_answers : (l : List ℕ) (b : List ℤ) (q : Certify) {buffer after : List ℕ} {n : ℕ} → Wrote buffer (requested (certify_of q) l b).reply after n
+    → Answers (requested (certify_of q) l b) buffer b after n
 unfolding requested
 certify_answers l b q w = record { block = sym (certified_leaves q.full (certificate b (weights_of b q.full (run_of l q.weights.at weight_width q.weights.count))) b); reply = w }
 
 -- and so does a save, whether its line fits or not
 pub save_answers : (l : List ℕ) (b : List ℤ) (room : ℕ) {buffer after : List ℕ} {n : ℕ} → Wrote buffer (fitted room b (saved b)).reply after n
-    → Answers (fitted room b (requested save-of l b)) buffer b after n
+    → Answers (fitted room b (requested save_of l b)) buffer b after n
 unfolding requested
 save_answers l b room {buffer} {after} {n} w = go (ltb room (length (saved b).reply)) w
   where
@@ -126,6 +126,6 @@ save_answers l b room {buffer} {after} {n} w = go (ltb room (length (saved b).re
 
 -- and a search
 pub search_answers : (l : List ℕ) (b : List ℤ) (q : Search) {buffer after : List ℕ} {n : ℕ} → Wrote buffer (search_reply (trains b) (search_answer b q.budget)) after n
-    → Answers (requested (search-of q) l b) buffer b after n
+    → Answers (requested (search_of q) l b) buffer b after n
 unfolding requested
 search_answers l b q w = record { block = refl; reply = w }

@@ -44,7 +44,7 @@ use Rattle.lines.specs.declared.request.Certify.{Certify}
 use Rattle.lines.specs.declared.request.Search.{Search}
 use Rattle.lines.specs.declared.request.Clauses.{Clauses as ClauseFields}
 use Rattle.lines.specs.declared.request.Request.{Request}
-use Rattle.lines.specs.declared.request.Request.TheVariants.{Load as load_of, Add as add-of, Shift as Shift-of, Certify as certify-of, Search as search-of, Clauses as clauses-of}
+use Rattle.lines.specs.declared.request.Request.TheVariants.{Load as load_of, Add as add_of, Shift as shift_of, Certify as certify_of, Search as search_of, Clauses as clauses_request}
 use Rattle.lines.specs.Kinds.{needs_study, request_kind}
 use Rattle.lines.specs.Layout.{cost_width, move_width, weight_width, load_trains, load_scale, choice_count, load_pairs, load_first, load_second, pair_at, add_train, add_choice, add_points, certify_full_weight, search_budget, number_in, signed_in, end_of, further, count_width, pair_width, size_field, choice_field, pair_count_field, lift_field, move_field, weight_field, clause_count, clause_at}
 use Rattle.lines.specs.Verdicts.{field_run}
@@ -79,7 +79,7 @@ module _ {l : List ℕ} {b : List ℤ} {q : Request} {room : ℕ} (a : Asks l b 
 
 -- ---- 02 add, 06 search
 
-pub add_ready : {l : List ℕ} {b : List ℤ} {q : Add} {room : ℕ} → Asks l b (add-of q) room → Adds b q
+pub add_ready : {l : List ℕ} {b : List ℤ} {q : Add} {room : ℕ} → Asks l b (add_of q) room → Adds b q
 add_ready {l} {b} {q} a =
     let m = makes a in
     let e : q ≡ record { train = add_train l; choice = add_choice l; points = the_points (add_points l) } = cc in
@@ -87,7 +87,7 @@ add_ready {l} {b} {q} a =
     let f = add_fine l b m.1 in
     rw e (record { study = s; train = (add_there s f).0; choice = (add_there s f).1; points = f.points })
 
-pub search_ready : {l : List ℕ} {b : List ℤ} {q : Search} {room : ℕ} → Asks l b (search-of q) room → Study b × (q.budget ≤ max_budget)
+pub search_ready : {l : List ℕ} {b : List ℤ} {q : Search} {room : ℕ} → Asks l b (search_of q) room → Study b × (q.budget ≤ max_budget)
 search_ready {l} {b} {q} a =
     let m = makes a in
     let e : q ≡ record { budget = search_budget l } = cc in
@@ -102,7 +102,7 @@ pub record CertifyReady (l : List ℕ) (b : List ℤ) (q : Certify) : Type 0 whe
   pub inside : 2 * (q.weights.at + weight_width * q.weights.count) ≤ length l
   pub weights : WeightsFor b (run_of l q.weights.at weight_width q.weights.count)
 
-pub certify_ready : {l : List ℕ} {b : List ℤ} {q : Certify} {room : ℕ} → Asks l b (certify-of q) room → CertifyReady l b q
+pub certify_ready : {l : List ℕ} {b : List ℤ} {q : Certify} {room : ℕ} → Asks l b (certify_of q) room → CertifyReady l b q
 certify_ready {l} {b} {q} a =
     let m = makes a in
     let e : q ≡ record { full = certify_full_weight l; weights = field_run weight_field.at (weight_count (shape_of b)) } = cc in
@@ -150,7 +150,7 @@ small_run l f n h =
           (λ (k : i < n → ⊥). rw (list_past z (pos 0) n i (omega (arith, k))) (omega arith));
     }
 
-pub shift_ready : {l : List ℕ} {b : List ℤ} {q : Shift} {room : ℕ} → Asks l b (Shift-of q) room → ShiftReady l b q
+pub shift_ready : {l : List ℕ} {b : List ℤ} {q : Shift} {room : ℕ} → Asks l b (shift_of q) room → ShiftReady l b q
 shift_ready {l} {b} {q} a =
     let m = makes a in
     let e : q ≡ record { lifts = field_run lift_field.at (trains b); moves = field_run (move_field (trains b)).at (move_count (shape_of b)) } = cc in
@@ -250,7 +250,7 @@ pub record ClausesReady (l : List ℕ) (q : ClauseFields) : Type 0 where
   pub count : (q.clauses.count ≡ clause_count l) × (clause_count l ≤ max_clauses)
   pub limits : InLimits q.trains q.scale.0 (clauses_of l)
 
-pub clauses_ready : {l : List ℕ} {b : List ℤ} {q : ClauseFields} {room : ℕ} → Asks l b (clauses-of q) room → ClausesReady l q
+pub clauses_ready : {l : List ℕ} {b : List ℤ} {q : ClauseFields} {room : ℕ} → Asks l b (clauses_request q) room → ClausesReady l q
 clauses_ready {l} {b} {q} a =
     let m = makes a in
     let e : q ≡ record { trains = load_trains l; scale = the_scale (load_scale l); clauses = field_run (clause_at 0) (clause_count l) } = cc in

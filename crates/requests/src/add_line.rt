@@ -1,7 +1,7 @@
 // Document 01, '02 add', carried out and answered.
 ghost use Rattle.std.specs.Prelude.{◌≤◌, length};
 ghost use Rattle.operations.specs.Add.{added, add_outcome};
-ghost use Rattle.lines.specs.declared.kind.Kind.TheVariants.{Add as add-kind};
+ghost use Rattle.lines.specs.declared.kind.Kind.TheVariants.{Add as add_kind};
 ghost use Rattle.replies.specs.Replies.{longest_fixed};
 ghost use Rattle.requests.specs.Answer.{operated};
 ghost use Rattle.requests.specs.Wrote.{Answers, Adds};
@@ -14,7 +14,7 @@ use operations::add;
 // Adds points to a choice.
 pub fn answer_add(block: &mut [i64], reply: &mut [u8], q: Add) -> usize
     requires { (longest_fixed ≤ length reply.old) × Adds block.old q }
-    ensures { Answers (operated add-kind (add_outcome q.train q.choice q.points.0 block.old) block.old (added q.train q.choice q.points.0 block.old)) reply.old block.new reply.new result }
+    ensures { Answers (operated add_kind (add_outcome q.train q.choice q.points.0 block.old) block.old (added q.train q.choice q.points.0 block.old)) reply.old block.new reply.new result }
 {
     let points = q.points;
     let outcome = add::add(block, q.train, q.choice, points);

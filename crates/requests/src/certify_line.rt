@@ -1,6 +1,6 @@
 // Document 01, '05 certify', carried out and answered. It leaves the block.
 ghost use Rattle.std.specs.Prelude.{◌≡◌, length};
-ghost use Rattle.lines.specs.declared.request.Request.TheVariants.{Certify as certify-of};
+ghost use Rattle.lines.specs.declared.request.Request.TheVariants.{Certify as certify_of};
 ghost use Rattle.replies.specs.Wrote.{Wrote};
 ghost use Rattle.requests.specs.Answer.{requested};
 ghost use Rattle.requests.specs.Wrote.{Asks};
@@ -23,8 +23,8 @@ fn certify_with(
     q: Certify,
     weights: &mut [u64],
 ) -> usize
-    requires { Asks line.now block.now (certify-of q) (length reply.old) × (length weights.old ≡ q.weights.count) }
-    ensures { Wrote reply.old (requested (certify-of q) line.now block.now).reply reply.new result }
+    requires { Asks line.now block.now (certify_of q) (length reply.old) × (length weights.old ≡ q.weights.count) }
+    ensures { Wrote reply.old (requested (certify_of q) line.now block.now).reply reply.new result }
 {
     runs::decode(line, q.weights.at, Certify::WEIGHT_WIDTH, weights);
     match certify::certify(block, q.full, weights) {
@@ -36,8 +36,8 @@ fn certify_with(
 
 // Judges a certificate.
 pub fn answer_certify(line: &[u8], block: &[i64], reply: &mut [u8], q: Certify) -> usize
-    requires { Asks line.now block.now (certify-of q) (length reply.old) }
-    ensures { Wrote reply.old (requested (certify-of q) line.now block.now).reply reply.new result }
+    requires { Asks line.now block.now (certify_of q) (length reply.old) }
+    ensures { Wrote reply.old (requested (certify_of q) line.now block.now).reply reply.new result }
 {
     let mut weights = [0u64; WEIGHTS];
     let count = q.weights.count;

@@ -3,7 +3,7 @@ ghost use Rattle.std.specs.Prelude.{◌≤◌, length};
 ghost use Rattle.tables.specs.WellFormed.{Study};
 ghost use Rattle.rewriting.specs.Judged.{kept};
 ghost use Rattle.directional.specs.Directional.{directed, direct_outcome};
-ghost use Rattle.lines.specs.declared.kind.Kind.TheVariants.{Round as round-kind};
+ghost use Rattle.lines.specs.declared.kind.Kind.TheVariants.{Round as round_kind};
 ghost use Rattle.replies.specs.Replies.{longest_fixed};
 ghost use Rattle.requests.specs.Answer.{operated};
 ghost use Rattle.requests.specs.Wrote.{Answers};
@@ -14,7 +14,7 @@ use lines::kind::Kind;
 // Makes a directional round of the held costs.
 pub fn answer_round(block: &mut [i64], reply: &mut [u8]) -> usize
     requires { (longest_fixed ≤ length reply.old) × Study block.old }
-    ensures { Answers (operated round-kind (direct_outcome block.old) block.old (kept block.old (directed block.old))) reply.old block.new reply.new result }
+    ensures { Answers (operated round_kind (direct_outcome block.old) block.old (kept block.old (directed block.old))) reply.old block.new reply.new result }
 {
     let outcome = directional::direct(block);
     write_outcome(reply, Kind::Round, outcome, block)

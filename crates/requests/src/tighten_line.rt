@@ -3,7 +3,7 @@ ghost use Rattle.std.specs.Prelude.{◌≤◌, length};
 ghost use Rattle.tables.specs.WellFormed.{Study};
 ghost use Rattle.rewriting.specs.Judged.{kept};
 ghost use Rattle.tighten.specs.Tighten.{tightened, tighten_outcome};
-ghost use Rattle.lines.specs.declared.kind.Kind.TheVariants.{Tighten as tighten-kind};
+ghost use Rattle.lines.specs.declared.kind.Kind.TheVariants.{Tighten as tighten_kind};
 ghost use Rattle.replies.specs.Replies.{longest_fixed};
 ghost use Rattle.requests.specs.Answer.{operated};
 ghost use Rattle.requests.specs.Wrote.{Answers};
@@ -14,7 +14,7 @@ use lines::kind::Kind;
 // Tightens the held costs.
 pub fn answer_tighten(block: &mut [i64], reply: &mut [u8]) -> usize
     requires { (longest_fixed ≤ length reply.old) × Study block.old }
-    ensures { Answers (operated tighten-kind (tighten_outcome block.old) block.old (kept block.old (tightened block.old))) reply.old block.new reply.new result }
+    ensures { Answers (operated tighten_kind (tighten_outcome block.old) block.old (kept block.old (tightened block.old))) reply.old block.new reply.new result }
 {
     let outcome = tighten::tighten(block);
     write_outcome(reply, Kind::Tighten, outcome, block)

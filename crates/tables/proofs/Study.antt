@@ -14,7 +14,7 @@ use borrow.Author.Tests.{lt-ltb, ltb-true, eq-eqb, ne_eqb, eqb-true}
 use Rattle.theory.proofs.Range.{both_true, all_true, all_intro, pass_all}
 use Rattle.units.specs.Units.{scale_min, scale_max}
 use Rattle.tables.specs.declared.block.Block.{Block}
-use Rattle.tables.specs.declared.well_formed.NewBlock.TheVariants.{Within as Within-block, Outside as outside-block}
+use Rattle.tables.specs.declared.well_formed.NewBlock.TheVariants.{Within as within_block, Outside as outside-block}
 use Rattle.tables.specs.Block.{block_length, max_trains, max_choices, max_pairs, max_cost, max_parts, trains_place, constant_place, size_place, first_place, second_place, entries_of_pair, loaded_choices_from, held_choices_from, loaded_entries_from, held_entries_from, loaded_choice_place, held_choice_place, loaded_entry_place, held_entry_place, at, nat, figure, trains, scale, pairs, constant, size, first, second, held_choice, held_entry}
 use Rattle.tables.specs.WellFormed.{Limits, from_to, cost_to, within, is_open, mated, used_if, choice_used, entry_used, head_limits, limits_at, places_right, before, follows, pair_right, pairs_right, is_zero, is_fresh, holds_study, well_formed, new_block, Study}
 use Rattle.tables.proofs.Mates.{mated-mates, mates-mated, mate_open, mate_same}
@@ -44,17 +44,17 @@ study_of_lem b e f =
     holds_study_lem b (eqb-true (length b) block_length g.0) (rw f at g.1)
 
 -- what the constructor of a block says: the numbers are well formed, and the block keeps whether they are fresh; or they are not
-pub new_block_within : (b : List ℤ) (k : Block) → new_block b ≡ Within-block k → (well_formed b ≡ true) × (k.fresh ≡ is_fresh b)
+pub new_block_within : (b : List ℤ) (k : Block) → new_block b ≡ within_block k → (well_formed b ≡ true) × (k.fresh ≡ is_fresh b)
 new_block_within b k e = go (well_formed b) refl e
   where
-    go : (t : Bool) → well_formed b ≡ t → cond t (Within-block (record { fresh = is_fresh b })) outside-block ≡ Within-block k → (well_formed b ≡ true) × (k.fresh ≡ is_fresh b)
+    go : (t : Bool) → well_formed b ≡ t → cond t (within_block (record { fresh = is_fresh b })) outside-block ≡ within_block k → (well_formed b ≡ true) × (k.fresh ≡ is_fresh b)
     go true p e = let h : record { fresh = is_fresh b } ≡ k = cc in (p, ap (λ (x : Block). x.fresh) (sym h))
     go false p e = let z : ◌≡◌ {A = ℕ} 0 1 = cc in absurd (omega arith)
 
 pub new_block_outside : (b : List ℤ) → new_block b ≡ outside-block → well_formed b ≡ false
 new_block_outside b e = go (well_formed b) refl e
   where
-    go : (t : Bool) → well_formed b ≡ t → cond t (Within-block (record { fresh = is_fresh b })) outside-block ≡ outside-block → well_formed b ≡ false
+    go : (t : Bool) → well_formed b ≡ t → cond t (within_block (record { fresh = is_fresh b })) outside-block ≡ outside-block → well_formed b ≡ false
     go true p e = let z : ◌≡◌ {A = ℕ} 0 1 = cc in absurd (omega arith)
     go false p e = p
 
