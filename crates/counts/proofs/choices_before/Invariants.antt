@@ -1,4 +1,3 @@
--- The sizes so far are summed, each at most eight.
 use mathlib.Core.Path.{◌≡◌}
 use Prim.Native.Nat.{◌-◌, ◌≤◌}
 use Rattle.tables.specs.Plans.{shape_of}

@@ -1,4 +1,3 @@
--- The entries of the pairs so far are summed.
 use mathlib.Core.Path.{◌≡◌}
 use Prim.Native.Nat.{◌-◌, ◌≤◌}
 use Rattle.tables.specs.Block.{pairs}

@@ -1,4 +1,3 @@
--- The invariant: `at` is where pair k begins, `from` where its costs go, and the pairs so far stand in their places.
 use mathlib.Core.Path.{◌≡◌}
 use Prim.Native.Nat.{◌-◌, ◌≤◌}
 use lib.ListN.{length, take}

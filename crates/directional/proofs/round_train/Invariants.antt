@@ -1,4 +1,3 @@
--- Each turn of a pair keeps the heights, so that no number goes far, and the shape, so that the lift is of a train that is there.
 use mathlib.Core.Path.{◌≡◌}
 use Prim.Native.Nat.{◌-◌, ◌≤◌}
 use lib.ListN.{length}

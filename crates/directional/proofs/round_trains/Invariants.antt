@@ -1,4 +1,3 @@
--- The turns that are left give the round that was asked for, and what is carried from turn to turn keeps the block ready for the next.
 use mathlib.Core.Path.{◌≡◌}
 use Prim.Native.Nat.{◌-◌, ◌<◌, ◌≤◌}
 use lib.ListN.{length}

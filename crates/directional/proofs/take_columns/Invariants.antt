@@ -1,4 +1,3 @@
--- Each turn takes one column, so that the shape stays, no open number falls below 0, and none goes far from 0.
 use mathlib.Core.Path.{◌≡◌}
 use Prim.Native.Nat.{◌-◌, ◌≤◌}
 use lib.ListN.{length}

@@ -1,4 +1,3 @@
--- Each turn is one step of the definition, from where the step before ended, and prints what that step prints.
 use Prim.Native.Nat.{◌-◌}
 use lib.ListN.{take}
 use Rattle.stream.specs.Parts.{over_part}

@@ -1,4 +1,3 @@
--- The program stands behind the parts that it has read: each turn is one part more. The reads left count down.
 use Rattle.stream.specs.Steps.{AfterParts}
 use Rattle.junction.proofs.main.Given as goal
 

@@ -1,4 +1,3 @@
--- The invariant: the costs of the first i trains stand in the front of the slice. Each turn reads one train's costs behind them.
 use mathlib.Core.Path.{◌≡◌}
 use Prim.Native.Nat.{◌-◌, ◌≤◌}
 use lib.ListN.{length, take}

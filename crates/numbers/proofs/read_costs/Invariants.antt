@@ -1,4 +1,3 @@
--- The invariant: the first a costs stand in their places, and the other places are as they were.
 use mathlib.Core.Path.{◌≡◌}
 use mathlib.Core.List.{List}
 use Prim.Native.Nat.{ℕ, ◌+◌, ◌-◌, ◌≤◌}

@@ -1,4 +1,3 @@
--- The invariant: the first a rows stand in their places, and the other places are as they were. Each turn reads one row behind them.
 use mathlib.Core.Path.{◌≡◌}
 use Prim.Native.Nat.{◌*◌, ◌-◌, ◌≤◌}
 use lib.ListN.{length}

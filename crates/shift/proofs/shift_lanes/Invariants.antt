@@ -1,4 +1,3 @@
--- Each turn is one move of a chain from the block as it was at the beginning, so that its shape stays and no number goes far.
 use mathlib.Core.Path.{◌≡◌}
 use Prim.Native.Nat.{◌+◌, ◌-◌, ◌≤◌}
 use lib.ListN.{length}

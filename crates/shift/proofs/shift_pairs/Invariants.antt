@@ -1,4 +1,3 @@
--- Each turn makes the moves of one pair, a chain of at most 16, and the start goes on by as many as it took.
 use mathlib.Core.Path.{◌≡◌}
 use Prim.Native.Nat.{◌-◌, ◌≤◌}
 use lib.ListN.{length}

@@ -1,4 +1,3 @@
--- Each turn tightens one pair, by a chain of at most 16 moves.
 use mathlib.Core.Path.{◌≡◌}
 use Prim.Native.Nat.{◌-◌, ◌≤◌}
 use lib.ListN.{length}

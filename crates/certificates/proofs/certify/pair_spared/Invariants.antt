@@ -1,4 +1,3 @@
--- The rows so far are spared, and the first that is not ends the loop.
 use mathlib.Core.Path.{◌≡◌}
 use mathlib.Core.Bool.{true}
 use Prim.Native.Nat.{◌-◌, ◌≤◌}

@@ -1,4 +1,3 @@
--- The sum so far is that of the rows passed, each of which adds at most 100,000 times the highest held cost.
 use mathlib.Core.Path.{◌≡◌}
 use Prim.Native.Nat.{◌-◌, ◌≤◌}
 use Rattle.theory.specs.Sum.{sum}

@@ -1,5 +1,3 @@
--- The pairs so far match, and the first that does not ends the loop. A pair that matches has at most eight rows, each of which sums to at most W.
--- `from` is where the weights of pair k begin.
 use mathlib.Core.Path.{◌≡◌}
 use mathlib.Core.Bool.{true}
 use Prim.Native.Nat.{◌-◌, ◌≤◌}

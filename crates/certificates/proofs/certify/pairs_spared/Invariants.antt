@@ -1,4 +1,3 @@
--- The pairs so far are spared, and the first that is not ends the loop. `from` is where the weights of pair k begin.
 use mathlib.Core.Path.{◌≡◌}
 use mathlib.Core.Bool.{true}
 use Prim.Native.Nat.{◌-◌, ◌≤◌}

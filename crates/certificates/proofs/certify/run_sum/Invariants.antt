@@ -1,4 +1,3 @@
--- The sum so far is that of the weights passed, each below 2 ^ 24, so that eight of them fit.
 use mathlib.Core.Path.{◌≡◌}
 use Prim.Native.Nat.{◌*◌, ◌-◌, ◌≤◌}
 use Rattle.certificates.specs.Certify.{weights_below}

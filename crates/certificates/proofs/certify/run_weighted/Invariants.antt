@@ -1,4 +1,3 @@
--- The sum so far is that of the weights passed, each times its number. Its weights are within W, so that no front of it is more than 100,000 times the highest held cost.
 use mathlib.Core.Path.{◌≡◌}
 use Prim.Native.Nat.{◌-◌, ◌≤◌}
 use Rattle.certificates.specs.Runs.{run_weighted}

@@ -1,4 +1,3 @@
--- The runs so far sum to their weights, and the first that does not ends the loop.
 use mathlib.Core.Path.{◌≡◌}
 use mathlib.Core.Bool.{true}
 use Prim.Native.Nat.{◌-◌, ◌≤◌}

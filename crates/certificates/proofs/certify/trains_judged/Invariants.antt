@@ -1,5 +1,3 @@
--- The weights of each train so far sum to W, and the first train whose weights do not ends the loop. A train that was judged adds at most
--- 100,000 times the highest held cost. `start` is where the weights of train i begin.
 use mathlib.Core.Path.{◌≡◌}
 use mathlib.Core.Bool.{true}
 use Prim.Native.Nat.{◌-◌, ◌≤◌}

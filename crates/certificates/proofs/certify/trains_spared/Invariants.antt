@@ -1,4 +1,3 @@
--- The trains so far are spared, and the first that is not ends the loop. The start is where the weights of train i begin.
 use mathlib.Core.Path.{◌≡◌}
 use mathlib.Core.Bool.{true}
 use Prim.Native.Nat.{◌-◌, ◌≤◌}

@@ -1,4 +1,3 @@
--- The cells hold what the clauses so far charge, and each turn adds one clause.
 use Prim.Native.Nat.{◌-◌, ◌≤◌}
 use lib.ListN.{length}
 use Rattle.clauses.specs.Clauses.{clauses}

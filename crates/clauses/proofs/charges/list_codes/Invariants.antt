@@ -1,4 +1,3 @@
--- The pairs among the codes so far are listed, and there is room for each next one.
 use mathlib.Core.Path.{◌≡◌}
 use Prim.Native.Nat.{◌-◌, ◌≤◌}
 use lib.ListN.{length, take}

@@ -1,4 +1,3 @@
--- The codes of the clauses so far are marked, and each turn marks one more.
 use Prim.Native.Nat.{◌-◌, ◌≤◌}
 use lib.ListN.{length}
 use Rattle.clauses.specs.Clauses.{clauses}

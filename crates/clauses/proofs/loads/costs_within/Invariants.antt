@@ -1,4 +1,3 @@
--- The sums so far are within the limit, and each turn judges one.
 use mathlib.Core.Path.{◌≡◌}
 use mathlib.Core.Bool.{true}
 use Prim.Native.Nat.{◌-◌, ◌≤◌}

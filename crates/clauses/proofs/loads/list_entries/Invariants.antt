@@ -1,4 +1,3 @@
--- The costs so far stand in their places, and each turn stores one.
 use mathlib.Core.Path.{◌≡◌}
 use Prim.Native.Nat.{◌-◌, ◌≤◌}
 use lib.ListN.{length}

@@ -1,4 +1,3 @@
--- The trains so far stand in their places, and each turn stores those of one pair.
 use mathlib.Core.Path.{◌≡◌}
 use mathlib.Core.List.{List}
 use Prim.Native.Nat.{ℕ, ◌-◌, ◌/◌, ◌%◌, ◌≤◌}

@@ -1,4 +1,3 @@
--- The invariant: v is the number of the bytes so far, which fits, since no byte is above 272.
 use mathlib.Core.Path.{◌≡◌}
 use Prim.Native.Nat.{◌-◌, ◌≤◌}
 use Rattle.frames.specs.Fields.{field}

@@ -1,4 +1,3 @@
--- One byte more gives 256 times as many numbers.
 use mathlib.Core.Path.{◌≡◌}
 use Prim.Native.Nat.{◌-◌, ◌≤◌, ◌^◌}
 use Rattle.frames.proofs.fields.numbers.Given as goal

@@ -1,4 +1,3 @@
--- All characters so far are digits, and the next one is asked.
 use mathlib.Core.Path.{◌≡◌}
 use Prim.Native.Nat.{◌-◌, ◌≤◌}
 use lib.ListN.{length, get_or}

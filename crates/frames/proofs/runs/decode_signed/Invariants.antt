@@ -1,4 +1,3 @@
--- The invariant: the first k numbers stand in their places, and the other places are as they were.
 use mathlib.Core.Path.{◌≡◌}
 use Prim.Native.Nat.{◌-◌, ◌≤◌}
 use lib.ListN.{length}

@@ -1,4 +1,3 @@
--- The invariant: the clauses so far are fine.
 use mathlib.Core.Path.{◌≡◌}
 use Prim.Native.Nat.{◌-◌, ◌≤◌}
 use Rattle.refusals.specs.declared.Verdict.TheVariants.{Fine}

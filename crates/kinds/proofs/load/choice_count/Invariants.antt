@@ -1,4 +1,3 @@
--- The sizes so far are summed; a size is at most 8, and there are at most 24.
 use mathlib.Core.Path.{◌≡◌}
 use Prim.Native.Nat.{◌-◌, ◌*◌, ◌≤◌}
 use Rattle.theory.specs.Sum.{sum}

@@ -1,4 +1,3 @@
--- The invariant: `at` and `last` are where pair k and the one before it begin, within the line, and the pairs so far are fine.
 use mathlib.Core.Path.{◌≡◌}
 use Prim.Native.Nat.{◌-◌, ◌≤◌}
 use Rattle.refusals.specs.declared.Verdict.TheVariants.{Fine}

@@ -1,4 +1,3 @@
--- The fields so far are fine, and the first that is not ends the loop.
 use mathlib.Core.Path.{◌≡◌}
 use Prim.Native.Nat.{◌-◌, ◌≤◌}
 use Rattle.refusals.specs.declared.Verdict.TheVariants.{Fine}

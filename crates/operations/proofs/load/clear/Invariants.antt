@@ -1,4 +1,3 @@
--- The places passed are 0, and at the end all are passed.
 use mathlib.Core.Path.{◌≡◌}
 use Prim.Native.Nat.{◌-◌, ◌≤◌}
 use lib.IntN.{pos}

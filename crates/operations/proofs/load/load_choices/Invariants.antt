@@ -1,4 +1,3 @@
--- Each turn stores the costs of one train, and the next train's costs begin where they end.
 use mathlib.Core.Path.{◌≡◌}
 use Prim.Native.Nat.{◌-◌, ◌≤◌}
 use lib.ListN.{length}

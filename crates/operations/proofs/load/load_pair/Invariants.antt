@@ -1,4 +1,3 @@
--- Each turn stores one row, and the next row's costs begin where it ends.
 use mathlib.Core.Path.{◌≡◌}
 use Prim.Native.Nat.{◌-◌, ◌≤◌}
 use lib.ListN.{length}

@@ -1,4 +1,3 @@
--- Each turn stores the two trains of one pair, as the definition does.
 use mathlib.Core.Path.{◌≡◌}
 use Prim.Native.Nat.{◌-◌, ◌≤◌}
 use lib.ListN.{length}

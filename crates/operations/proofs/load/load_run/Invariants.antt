@@ -1,4 +1,3 @@
--- Each turn stores one cost, as the definition does.
 use mathlib.Core.Path.{◌≡◌}
 use Prim.Native.Nat.{◌-◌, ◌≤◌}
 use lib.ListN.{length}

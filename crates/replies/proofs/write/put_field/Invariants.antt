@@ -1,4 +1,3 @@
--- The invariant: w bytes are still to be written, of the number `rest`; the bytes behind them stand, and the characters before them are as they were.
 use Rattle.replies.proofs.Writing.{Still}
 use Rattle.replies.proofs.write.put_field.Given as goal
 

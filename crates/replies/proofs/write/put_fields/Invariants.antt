@@ -1,4 +1,3 @@
--- The invariant: the first i numbers are written as fields, one after the other. A turn writes one more.
 use mathlib.Core.Path.{◌≡◌}
 use mathlib.Core.List.{[]}
 use Prim.Native.Nat.{◌*◌, ◌-◌, ◌≤◌}

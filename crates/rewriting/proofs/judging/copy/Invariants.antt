@@ -1,4 +1,3 @@
--- The first places of the two lists agree, one more after each turn.
 use mathlib.Core.Path.{◌≡◌}
 use Prim.Native.Nat.{◌-◌, ◌≤◌}
 use lib.ListN.{length, take}

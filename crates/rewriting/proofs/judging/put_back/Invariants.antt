@@ -1,4 +1,3 @@
--- The front that the loop has gone through is put back.
 use mathlib.Core.Path.{◌≡◌}
 use Prim.Native.Nat.{◌-◌, ◌≤◌}
 use lib.ListN.{length, take}

@@ -1,4 +1,3 @@
--- What is found so far is the least of the first places of the run, and each turn takes in one more.
 use mathlib.Core.Path.{◌≡◌}
 use Prim.Native.Nat.{◌-◌, ◌≤◌}
 use Rattle.tables.specs.Block.{figure}

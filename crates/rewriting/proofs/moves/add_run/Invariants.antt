@@ -1,4 +1,3 @@
--- Every turn meets a place of its own, so that no number grows by more than z: the sums fit.
 use mathlib.Core.Path.{◌≡◌}
 use Prim.Native.Nat.{◌-◌, ◌≤◌}
 use lib.ListN.{length}

@@ -1,4 +1,3 @@
--- Every pair passed so far begins before t; first trains ascend with the pairs, so all from the stop on begin at t or later.
 use Prim.Native.Nat.{ℕ, ◌-◌, ◌<◌, ◌≤◌}
 use Rattle.tables.specs.Block.{first}
 use Rattle.rows.proofs.links.begin.Given as goal

@@ -1,4 +1,3 @@
--- The entries written so far are right, and the next train's pairs begin no earlier than this one's.
 use mathlib.Core.Path.{◌≡◌}
 use Prim.Native.Nat.{ℕ, ◌+◌, ◌-◌, ◌<◌, ◌≤◌}
 use lib.ListN.{length}

@@ -1,4 +1,3 @@
--- The trains written so far have their own rows.
 use mathlib.Core.Path.{◌≡◌}
 use Prim.Native.Nat.{◌-◌, ◌≤◌}
 use lib.ListN.{length}

@@ -1,4 +1,3 @@
--- With no pair linked each train has its own row; then one pair after the other is linked.
 use mathlib.Core.Path.{◌≡◌}
 use Prim.Native.Nat.{ℕ, ◌-◌, ◌≤◌}
 use mathlib.Core.List.{List}

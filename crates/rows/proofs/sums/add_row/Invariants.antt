@@ -1,4 +1,3 @@
--- The places of the row below a hold the sums that were made; the row at `base` lies before it.
 use mathlib.Core.Path.{◌≡◌}
 use Prim.Native.Nat.{◌-◌, ◌≤◌}
 use lib.ListN.{get_or}

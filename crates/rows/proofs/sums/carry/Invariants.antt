@@ -1,4 +1,3 @@
--- The rows of the pairs below k are summed with the choice of t, for every study that has this table; those of the pairs before t's stay.
 use mathlib.Core.Path.{◌≡◌}
 use mathlib.Core.List.{List}
 use Prim.Native.Nat.{◌-◌, ◌≤◌}

@@ -1,4 +1,3 @@
--- The places below to + i hold what the block's count; all others are as they were.
 use mathlib.Core.Path.{◌≡◌}
 use Prim.Native.Nat.{◌+◌, ◌-◌, ◌≤◌}
 use Rattle.rows.specs.Walled.{walled}

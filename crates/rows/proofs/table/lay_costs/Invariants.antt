@@ -1,4 +1,3 @@
--- The rows of the pairs passed so far are laid; the next pair's stand behind them.
 use mathlib.Core.Path.{◌≡◌}
 use Prim.Native.Nat.{◌-◌, ◌≤◌}
 use lib.ListN.{length}

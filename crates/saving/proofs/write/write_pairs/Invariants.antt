@@ -1,4 +1,3 @@
--- The invariant: the first k pairs are written behind the front, and the next pair's costs begin at `start`. Each turn writes one pair.
 use mathlib.Core.Path.{◌≡◌}
 use mathlib.Core.List.{[], ◌++◌}
 use Prim.Native.Nat.{◌+◌, ◌*◌, ◌-◌, ◌≤◌}

@@ -1,4 +1,3 @@
--- The invariant: the first k numbers are written behind the front. A turn writes one more field.
 use mathlib.Core.Path.{◌≡◌}
 use mathlib.Core.List.{[], ◌++◌}
 use Prim.Native.Nat.{◌+◌, ◌*◌, ◌-◌, ◌≤◌}

@@ -1,4 +1,3 @@
--- As many bytes as there is room for are put behind the line, one after the other.
 use mathlib.Core.Path.{◌≡◌}
 use Prim.Native.Nat.{◌-◌, ◌≤◌}
 use lib.ListN.{length}

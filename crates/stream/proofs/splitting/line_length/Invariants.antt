@@ -1,4 +1,3 @@
--- The bytes so far have no line feed, so the line's length is what was counted and the length from there on.
 use mathlib.Core.Path.{◌≡◌}
 use Prim.Native.Nat.{◌+◌, ◌-◌, ◌≤◌}
 use lib.ListN.{length, drop}

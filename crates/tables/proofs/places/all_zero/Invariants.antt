@@ -1,4 +1,3 @@
--- The bits of the numbers so far are joined, and they are all 0 where each of the numbers is 0.
 use mathlib.Core.Path.{◌≡◌}
 use Prim.Native.Nat.{◌-◌, ◌≤◌}
 use lib.Dec.{eqb}

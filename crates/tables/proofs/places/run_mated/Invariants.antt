@@ -1,4 +1,3 @@
--- What the places so far give is parted, and it is 0 where all of them are mates.
 use mathlib.Core.Path.{◌≡◌}
 use Prim.Native.Nat.{◌-◌, ◌≤◌}
 use lib.Dec.{eqb}

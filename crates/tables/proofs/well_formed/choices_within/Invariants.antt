@@ -1,4 +1,3 @@
--- The table is a row of eight places for each of 24 trains. The rows so far are right, and the first that is not ends the loop.
 use mathlib.Core.Path.{◌≡◌}
 use mathlib.Core.Bool.{true}
 use Prim.Native.Nat.{◌-◌, ◌≤◌}

@@ -1,4 +1,3 @@
--- The table is 64 places for each of 48 pairs. The pairs so far are right, and the first that is not ends the loop.
 use mathlib.Core.Path.{◌≡◌}
 use mathlib.Core.Bool.{true}
 use Prim.Native.Nat.{◌-◌, ◌≤◌}

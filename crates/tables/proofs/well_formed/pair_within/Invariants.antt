@@ -1,4 +1,3 @@
--- The places of a pair that is not there are one run of unused places. Those of another are a row of eight for each choice of its first train. The rows so far are right, and the first that is not ends the loop.
 use mathlib.Core.Path.{◌≡◌}
 use mathlib.Core.Bool.{true}
 use Prim.Native.Nat.{◌-◌, ◌≤◌}

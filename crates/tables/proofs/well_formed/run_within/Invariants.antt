@@ -1,4 +1,3 @@
--- The places so far are within the limits, and the first that is not ends the loop.
 use mathlib.Core.Path.{◌≡◌}
 use mathlib.Core.Bool.{true}
 use Prim.Native.Nat.{◌-◌, ◌≤◌}
