@@ -2,17 +2,17 @@
 #![tactic(auto)]
 
 ghost use Rattle.std.specs.Prelude.{◌≡◌};
-ghost use Rattle.tables.specs.WellFormed.{Study};
 ghost use Rattle.bounds.specs.Bounds.{bound_of};
 
 use tables::block;
+use tables::held_study::HeldStudy;
 use units::Points;
 
-// The published bound of the study that a block holds.
-pub fn published(block: &[i64]) -> Points
-    requires { Study block.now }
-    ensures { result.0 ≡ bound_of block.now }
+// The published bound of a study.
+#[tactic(auto, using(tables::proofs::Study::scale_range, tables::proofs::Study::constant_range))]
+pub fn published(study: HeldStudy<'_>) -> Points
+    ensures { result.0 ≡ bound_of study.entry.numbers.now }
 {
-    let constant = block::constant(block);
-    block::scale(block).bound(constant)
+    let constant = block::constant(study.numbers);
+    block::scale(study.numbers).bound(constant)
 }

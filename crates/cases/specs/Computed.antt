@@ -34,10 +34,10 @@ use Rattle.lines.specs.Text.{pair_digits, pairs_digits, load_digits}
 use Rattle.lines.specs.Verdicts.{field_verdict, runs_verdict, last_verdict}
 use Rattle.kinds.specs.Load.{pair_ordered, pair_verdict, head_verdict, rest_verdict, load_verdict}
 use Rattle.kinds.specs.Clauses.{clause_verdict, clause_run_verdict, clauses_verdict}
-use Rattle.kinds.specs.Lines.{add_verdict, shift_verdict, certify_verdict, search_verdict}
+use Rattle.kinds.specs.Lines.{add_verdict, shift_verdict, certify_verdict, search_verdict, study_line}
 use Rattle.decoding.specs.Numbers.{entries_of, numbers_of}
 use Rattle.decoding.specs.Clauses.{clauses_of}
-use Rattle.reader.specs.Reading.{study_line, kind_line, line_of}
+use Rattle.reader.specs.Reading.{kind_line, line_of}
 use Rattle.search.specs.Walk.{barred, partial_total, one_try, tried_from, opened_train, walked, searched}
 use Rattle.search.specs.Walk as walk
 use Rattle.search.specs.Answer.{search_answer}

@@ -12,7 +12,9 @@ use Rattle.tables.specs.WellFormed.{Study}
 use Rattle.tables.specs.Plans.{Shape, AlikeShapes, IsPlan, Open, total, shape_of, held_costs}
 use Rattle.tables.specs.LineLimits.{max_full_weight}
 use Rattle.tables.proofs.Plans.{Shaped, study_shaped, alike_shaped, alike_back, alike_plan}
-use Rattle.certificates.specs.declared.certify.Certificate.TheVariants.{Unbalanced, Forbidden, Balanced}
+use Rattle.std.specs.Prelude.{Result, Ok, Err}
+use Rattle.refusals.specs.declared.Refusal.{Refusal}
+use Rattle.refusals.specs.declared.Refusal.TheVariants.{Sums, ForbiddenWeight}
 use Rattle.certificates.specs.declared.certify.Ceiling.{Ceiling}
 use Rattle.certificates.specs.Certify.{Weights, balanced, spared, weighted, weights_of, ceiling, certificate}
 use Rattle.certificates.specs.Runs.{trains_match, pairs_match}
@@ -21,7 +23,7 @@ use Rattle.certificates.proofs.Agrees.{Agrees, balanced_agrees}
 use Rattle.certificates.proofs.Fractions.{every_rival}
 use Rattle.certificates.proofs.Runs.{balanced_runs, weighted_runs, floor_most, parts_most}
 
--- what the answer `Balanced c` says
+-- what the answer `Ok c` says
 pub record Certified (b : List ℤ) (w : Weights) (c : Ceiling) : Type 0 where
   pub right : balanced (shape_of b) w ≡ true
   pub spares : spared (shape_of b) w ≡ true
@@ -29,15 +31,16 @@ pub record Certified (b : List ℤ) (w : Weights) (c : Ceiling) : Type 0 where
   pub shown : c.weighted ≡ weighted (shape_of b) w (held_costs b)
   pub reached : c.reached ≡ eqb (weighted (shape_of b) w (held_costs b)) (w.full_weight * constant b)
 
-pub certify_ceiling : (b : List ℤ) (w : Weights) {c : Ceiling} → certificate b w ≡ Balanced c → Certified b w c
+-- the ceiling of weights that are right and spare what is forbidden
+abbrev shows : List ℤ → Weights → Ceiling
+shows b w = record { reached = eqb (ceiling b w) (w.full_weight * constant b); weighted = ceiling b w }
+
+pub certify_ceiling : (b : List ℤ) (w : Weights) {c : Ceiling} → certificate b w ≡ Ok c → Certified b w c
 certify_ceiling b w {c} e = go (balanced (shape_of b) w) refl (spared (shape_of b) w) refl e
   where
-    shows : Ceiling
-    shows = record { reached = eqb (ceiling b w) (w.full_weight * constant b); weighted = ceiling b w }
-
-    go : (t : Bool) → balanced (shape_of b) w ≡ t → (u : Bool) → spared (shape_of b) w ≡ u → cond t (cond u (Balanced shows) Forbidden) Unbalanced ≡ Balanced c → Certified b w c
+    go : (t : Bool) → balanced (shape_of b) w ≡ t → (u : Bool) → spared (shape_of b) w ≡ u → cond t (cond u (Ok (shows b w)) (Err ForbiddenWeight)) (Err Sums) ≡ Ok c → Certified b w c
     go true p true q e =
-        let h : shows ≡ c = cc in
+        let h : shows b w ≡ c = cc in
         record {
           right = p;
           spares = q;
@@ -48,15 +51,25 @@ certify_ceiling b w {c} e = go (balanced (shape_of b) w) refl (spared (shape_of 
     go true p false q e = let z : ◌≡◌ {A = ℕ} 0 1 = cc in absurd (omega arith)
     go false p u q e = let z : ◌≡◌ {A = ℕ} 0 1 = cc in absurd (omega arith)
 
+-- what holds where the sums disagree, where a weight stands on what is forbidden, and of each ceiling, holds of every answer
+pub certify_cases : (b : List ℤ) (w : Weights) (P : Result Ceiling Refusal → Type 0) → P (Err Sums) → P (Err ForbiddenWeight) → ((c : Ceiling) → certificate b w ≡ Ok c → P (Ok c))
+    → P (certificate b w)
+certify_cases b w P x y z = go (balanced (shape_of b) w) (spared (shape_of b) w) z
+  where
+    go : (t u : Bool) → ((c : Ceiling) → cond t (cond u (Ok (shows b w)) (Err ForbiddenWeight)) (Err Sums) ≡ Ok c → P (Ok c)) → P (cond t (cond u (Ok (shows b w)) (Err ForbiddenWeight)) (Err Sums))
+    go true true z = z (shows b w) refl
+    go true false z = y
+    go false u z = x
+
 -- E is far below what 64 bits hold
-pub certify_fits : {b : List ℤ} (full_weight : ℕ) (l : List ℕ) {c : Ceiling} → Study b → full_weight ≤ max_full_weight → certificate b (weights_of b full_weight l) ≡ Balanced c → c.weighted < 2 ^ 63
+pub certify_fits : {b : List ℤ} (full_weight : ℕ) (l : List ℕ) {c : Ceiling} → Study b → full_weight ≤ max_full_weight → certificate b (weights_of b full_weight l) ≡ Ok c → c.weighted < 2 ^ 63
 certify_fits {b} full_weight l s h e =
     let k = certify_ceiling b (weights_of b full_weight l) e in
     let f = both_true (trains_match b l full_weight) (pairs_match b l) (sym (balanced_runs b full_weight l) ∙ k.right) in
     omega (arith, k.shown, weighted_runs b full_weight l, floor_most s h, parts_most l s h f.0 f.1)
 
 -- 'W × the constant of every rival is at most E', of a rival that gives every plan the total that the held costs give it
-pub certify_rival : {b : List ℤ} (w : Weights) {c : Ceiling} → Study b → Open (shape_of b) → certificate b w ≡ Balanced c
+pub certify_rival : {b : List ℤ} (w : Weights) {c : Ceiling} → Study b → Open (shape_of b) → certificate b w ≡ Ok c
     → (r : Rival) → IsRival (shape_of b) (total (shape_of b) (held_costs b)) r → ConstantAtMost w.full_weight c.weighted r
 certify_rival {b} w s o e r is =
     let k = certify_ceiling b w e in

@@ -10,8 +10,10 @@ use Rattle.theory.specs.Range.{all}
 use Rattle.tables.specs.Block.{trains_place, scale_place, pairs_place, constant_place, size_place, first_place, second_place, loaded_choice_place, held_choice_place, held_entry_place, figure}
 use Rattle.tables.specs.WellFormed.{fresh_block, is_open}
 use Rattle.tables.specs.Plans.{held_costs}
-use Rattle.certificates.specs.declared.certify.Certificate.{Certificate}
-use Rattle.certificates.specs.declared.certify.Certificate.TheVariants.{Unbalanced, Forbidden, Balanced}
+use Rattle.std.specs.Prelude.{Result, Ok, Err}
+use Rattle.refusals.specs.declared.Refusal.{Refusal}
+use Rattle.refusals.specs.declared.Refusal.TheVariants.{Sums, ForbiddenWeight}
+use Rattle.certificates.specs.declared.certify.Ceiling.{Ceiling}
 use Rattle.certificates.specs.Certify.{train_balanced, row_balanced, column_balanced, pair_balanced, balanced, choice_spared, entry_spared, spared, over_choices, over_pairs, weighted, weights_of, certificate}
 
 -- the shape of J: two trains of two choices, s = 1, and one pair
@@ -46,10 +48,11 @@ same_bool true b = b
 same_bool false true = false
 same_bool false false = true
 
-shows : Certificate → Case → Bool
-shows Unbalanced c = same_bool c.agree false
-shows Forbidden c = c.agree && same_bool c.spare false
-shows (Balanced d) c = c.agree && c.spare && same_bool d.reached c.reached && eqb d.weighted c.ceiling
+shows : Result Ceiling Refusal → Case → Bool
+shows (Err Sums) c = same_bool c.agree false
+shows (Err ForbiddenWeight) c = c.agree && same_bool c.spare false
+shows (Err _) c = false
+shows (Ok d) c = c.agree && c.spare && same_bool d.reached c.reached && eqb d.weighted c.ceiling
 
 pub right : List Case → Bool
 right [] = true

@@ -1,6 +1,6 @@
 -- The runs of a certificate: they are all there, they say what the rule says, and once their sums are judged E fits. For every size.
 use mathlib.Core.Path.{◌≡◌, refl, sym, ap, ap₂, ◌∙◌}
-use mathlib.Core.Bool.{Bool, true, false, cond, ◌&&◌, ◌||◌}
+use mathlib.Core.Bool.{Bool, true, false, ◌&&◌, ◌||◌}
 use mathlib.Core.List.{List}
 use Prim.Native.Nat.{ℕ, ◌+◌, ◌*◌, ◌<◌, ◌≤◌}
 use native.Mathlib.Nat.{one-mul, mul-le-mul, mul-le-mul_right}
@@ -9,20 +9,20 @@ use lib.Dec.{eqb}
 use lib.IntN.{ℤ}
 use lib.ListN.{length, get_or}
 use borrow.Author.Tests.{eq-eqb, ne_eqb, eqb-true}
+use Rattle.std.specs.Prelude.{Option, Some, None}
 use Rattle.theory.specs.Sum.{sum}
 use Rattle.theory.specs.Range.{all}
-use Rattle.theory.proofs.Range.{all_true, all_cong, both_true}
-use Rattle.theory.proofs.Sum.{sum_cong, sum_term, sum_more, sum_most, sum_front, sum-weighted, row_part}
+use Rattle.theory.proofs.Range.{all-zero, all_true, all_false, all_more, all_cong, both_true}
+use Rattle.theory.proofs.Sum.{sum_none, sum_cong, sum_term, sum_more, sum_most, sum_front, sum-weighted, row_part}
 use Rattle.tables.specs.LineLimits.{max_full_weight}
-use Rattle.tables.specs.Block.{max_trains, max_choices, max_pairs, max_parts, figure, held_choice_place, held_entry_place, trains, pairs, constant, size, first, second}
+use Rattle.tables.specs.Block.{max_trains, max_choices, max_pairs, max_parts, figure, loaded_choice_place, loaded_entry_place, held_choice_place, held_entry_place, trains, pairs, constant, size, first, second}
 use Rattle.tables.specs.WellFormed.{Study}
 use Rattle.tables.specs.Plans.{shape_of, held_costs}
 use Rattle.tables.specs.Counts.{pair_entries, choices_before}
 use Rattle.tables.proofs.Counting.{choices_part, entries_part, rows_range, columns_range}
-use Rattle.tables.proofs.Study.{trains_range, pairs_range, constant_range, size_range, first-below-trains, second-below-trains, held_choice_range, held_entry_range}
-use Rattle.certificates.specs.declared.certify.Judged.TheVariants.{Disagree, Part}
+use Rattle.tables.proofs.Study.{trains_range, pairs_range, constant_range, size_range, first-below-trains, second-below-trains, held_choice_range, held_entry_range, choice_open_lem, entry_open_lem}
 use Rattle.certificates.specs.Certify.{train_balanced, row_balanced, column_balanced, pair_balanced, balanced, choice_spared, entry_spared, spared, over_choices, over_pairs, weighted, weights_of, WeightsFor, ceiling}
-use Rattle.certificates.specs.Runs.{run_sum, WeightRun, run_weighted, WeightsWithin, runs_match, WeightRuns, trains_match, entries_from, train_matches, pair_matches, pairs_match, train_weighted, trains_weighted, row_weighted, pair_weighted, pairs_weighted, TrainsWithin, RowsWithin, weight_spared, train_spared, trains_spared, row_spared, pair_spared, pairs_spared}
+use Rattle.certificates.specs.Runs.{run_sum, WeightRun, run_weighted, WeightsWithin, runs_match, WeightRuns, trains_match, entries_from, train_matches, pair_matches, pairs_match, train_weighted, trains_weighted, row_weighted, pair_weighted, pairs_weighted, TrainsWithin, RowsWithin, PairsWithin, weight_spared, train_spared, trains_spared, row_spared, pair_spared, pairs_spared, run_weighed, weighed}
 
 -- ---- one run
 
@@ -41,27 +41,22 @@ run_most l from b place count h q n r =
     let e : sum n w ≤ max_full_weight = omega (arith, next_to l from count, sum_front n count w r) in
     omega (arith, sum-weighted n max_parts w (λ k. figure b (place + k)) (λ k p. q k (omega arith)), mul-le-mul_right max_parts e)
 
--- the next weight of such a run
-pub run_next : {l : List ℕ} {from : ℕ} {b : List ℤ} {place count : ℕ} → WeightsWithin l from b place count → (k : ℕ) → k < count
-    → {x r : ℕ} → x ≡ run_weighted l from b place k → r ≡ figure b (place + k)
-    → (x + get_or l (from + k) 0 * r ≡ run_weighted l from b place (k + 1)) × (x + get_or l (from + k) 0 * r ≤ max_run)
-run_next {l} {from} {b} {place} {count} h k q {x} {r} e f =
-    let g : x + get_or l (from + k) 0 * r ≡ run_weighted l from b place (k + 1) = rw (e, f) (sym (sum_more k (λ j. get_or l (from + j) 0 * figure b (place + j)))) in
-    (g, omega (arith, run_most l from b place count h.sum h.costs (k + 1) (omega arith)))
-
--- what a call's sum r says of the sum t that it stands for, where the code asks whether r is x
-pub unequal : {r t x : ℕ} → r ≡ t → (r ≡ x → ⊥) → eqb t x ≡ false
-unequal e f = ne_eqb _ _ (λ q. f (e ∙ q))
-
-pub equal : {r t x : ℕ} → r ≡ t → r ≡ x → eqb t x ≡ true
-equal e f = eq-eqb _ _ (sym e ∙ f)
+-- such a run so far, with its next weight
+pub run_fits : {l : List ℕ} {from : ℕ} {b : List ℤ} {place count : ℕ} → WeightsWithin l from b place count → (k : ℕ) → k < count
+    → run_weighted l from b place k + get_or l (from + k) 0 * figure b (place + k) ≤ max_run
+run_fits {l} {from} {b} {place} {count} h k q =
+    omega (arith, run_most l from b place count h.sum h.costs (k + 1) (omega arith), sum_more k (λ j. get_or l (from + j) 0 * figure b (place + j)))
 
 -- a weight by its two tests
-pub spared_open : {r o : Bool} (v : ℕ) → r ≡ o → r ≡ true → true ≡ (o || eqb v 0)
-spared_open v e f = rw (sym e ∙ f)
+pub weight_open : {o : Bool} (v : ℕ) → o ≡ true → (o || eqb v 0) ≡ true
+weight_open v e = rw e
 
-pub spared_none : {r o : Bool} (v : ℕ) → r ≡ o → r ≡ false → eqb v 0 ≡ (o || eqb v 0)
-spared_none v e f = rw (sym e ∙ f)
+pub weight_none : (o : Bool) {v : ℕ} → v ≤ 0 → (o || eqb v 0) ≡ true
+weight_none true h = refl
+weight_none false h = eq-eqb _ _ (omega arith)
+
+pub weight_closed : {o : Bool} {v : ℕ} → o ≡ false → 0 < v → (o || eqb v 0) ≡ false
+weight_closed e h = rw e (ne_eqb _ _ (λ q. omega arith))
 
 -- ---- where the runs are
 
@@ -106,15 +101,12 @@ module _ {b : List ℤ} (s : Study b) where
   row_costs_lem : (k : ℕ) → k < pairs b → (a : ℕ) → a < size b (first b k) → (c : ℕ) → c < size b (second b k) → figure b (held_entry_place k a 0 + c) ≤ max_parts
   row_costs_lem k h a q c r = let e : held_entry_place k a 0 + c ≡ held_entry_place k a c = omega arith in rw e (held_entry_range s k h a c q r).high
 
-  -- the trains below n, whose weights sum to W each
-  pub trains_most : (l : List ℕ) {full_weight : ℕ} → full_weight ≤ max_full_weight → (n : ℕ) → n ≤ trains b → all n (train_matches b l full_weight) ≡ true → sum n (train_weighted b l) ≤ n * max_run
+  -- the trains below n
+  pub trains_most : (l : List ℕ) (n : ℕ) → n ≤ trains b → ((i : ℕ) → i < n → run_sum l (choices_before (shape_of b) i) 1 (size b i) ≤ max_full_weight) → sum n (train_weighted b l) ≤ n * max_run
   unfolding train_weighted
-  trains_most l {full_weight} g n q e =
+  trains_most l n q t =
       sum_most n max_run (train_weighted b l)
-      (λ i r. run_most l _ b _ (size b i) (omega (arith, train_sum i r)) (train_costs_lem i (omega arith)) (size b i) (omega arith))
-    where
-      train_sum : (i : ℕ) → i < n → run_sum l (choices_before (shape_of b) i) 1 (size b i) ≡ full_weight
-      train_sum i r = eqb-true _ _ (all_true (train_matches b l full_weight) n e i r)
+      (λ i r. run_most l _ b _ (size b i) (t i r) (train_costs_lem i (omega arith)) (size b i) (omega arith))
 
 module _ {b : List ℤ} {l : List ℕ} (s : Study b) where
   pub train_weights : WeightsFor b l → (i : ℕ) → i < trains b → run_sum l (choices_before (shape_of b) i) 1 (size b i) ≤ max_full_weight → WeightsWithin l (choices_before (shape_of b) i) b (held_choice_place i 0) (size b i)
@@ -125,6 +117,9 @@ module _ {b : List ℤ} {l : List ℕ} (s : Study b) where
         sum = t;
         costs = train_costs_lem s i h;
       }
+
+  pub trains_next : TrainsWithin b l → (i : ℕ) → i < trains b → sum i (train_weighted b l) + train_weighted b l i ≤ max_trains * max_run
+  trains_next t i h = omega (arith, trains_most s l (i + 1) (omega arith) (λ j q. t.sums j (omega arith)), sum_more i (train_weighted b l), trains_range s)
 
   module _ (k : ℕ) (h : k < pairs b) (t : RowsWithin b l k) where
     pub row_weights : WeightsFor b l → (a : ℕ) → a < size b (first b k)
@@ -143,34 +138,86 @@ module _ {b : List ℤ} {l : List ℕ} (s : Study b) where
         sum_most n max_run (row_weighted b l k)
         (λ a r. run_most l _ b _ (size b (second b k)) (t.sums a (omega arith)) (row_costs_lem s k h a (omega arith)) (size b (second b k)) (omega arith))
 
-  module _ (t : TrainsWithin b l) where
-    -- a row sums to its choice's weight, and that is one of its train's
-    pub rows-within : (k : ℕ) → k < pairs b → pair_matches b l k ≡ true → RowsWithin b l k
-    unfolding pair_matches
-    rows-within k h e =
-        record {
-          sums = λ a r.
-              let i = first b k in
-              let m : run_sum l (entries_from b k + size b (second b k) * a) 1 (size b (second b k)) ≡ get_or l (choices_before (shape_of b) i + a) 0 = eqb-true _ _ (all_true _ (size b i) (both_true _ _ e).0 a r) in
-              omega (
-                arith,
-                sum_term (size b i) a (λ c. get_or l (choices_before (shape_of b) i + c) 0) r,
-                next_to l (choices_before (shape_of b) i) (size b i),
-                t.sums i (first-below-trains s k h),
-              );
-        }
+  -- the pairs below n
+  pub pairs_most : (n : ℕ) → n ≤ pairs b → ((k : ℕ) → k < n → RowsWithin b l k) → sum n (pair_weighted b l) ≤ n * (max_choices * max_run)
+  unfolding pair_weighted
+  pairs_most n q t =
+      sum_most n (max_choices * max_run) (pair_weighted b l)
+      (λ k r.
+      omega (
+        arith,
+        rows_most k (omega arith) (t k r) (size b (first b k)) (omega arith),
+        size_range s (first b k) (first-below-trains s k (omega arith)),
+      ))
 
-    -- the pairs below n, whose sums agree
-    pub pairs_most : (n : ℕ) → n ≤ pairs b → all n (pair_matches b l) ≡ true → sum n (pair_weighted b l) ≤ n * (max_choices * max_run)
-    unfolding pair_weighted
-    pairs_most n q e =
-        sum_most n (max_choices * max_run) (pair_weighted b l)
-        (λ k r.
-        omega (
-          arith,
-          rows_most k (omega arith) (rows-within k (omega arith) (all_true (pair_matches b l) n e k r)) (size b (first b k)) (omega arith),
-          size_range s (first b k) (first-below-trains s k (omega arith)),
-        ))
+  pub pairs_next : PairsWithin b l → (k : ℕ) → k < pairs b → sum k (pair_weighted b l) + pair_weighted b l k ≤ max_pairs * (max_choices * max_run)
+  pairs_next t k h = omega (arith, pairs_most (k + 1) (omega arith) (λ j q. t.rows j (omega arith)), sum_more k (pair_weighted b l), pairs_range s)
+
+  -- a row sums to its choice's weight, and that is one of its train's
+  pub rows-within : TrainsWithin b l → (k : ℕ) → k < pairs b → pair_matches b l k ≡ true → RowsWithin b l k
+  unfolding pair_matches
+  rows-within t k h e =
+      record {
+        sums = λ a r.
+            let i = first b k in
+            let m : run_sum l (entries_from b k + size b (second b k) * a) 1 (size b (second b k)) ≡ get_or l (choices_before (shape_of b) i + a) 0 = eqb-true _ _ (all_true _ (size b i) (both_true _ _ e).0 a r) in
+            omega (
+              arith,
+              sum_term (size b i) a (λ c. get_or l (choices_before (shape_of b) i + c) 0) r,
+              next_to l (choices_before (shape_of b) i) (size b i),
+              t.sums i (first-below-trains s k h),
+            );
+      }
+
+  pub pairs-within : TrainsWithin b l → pairs_match b l ≡ true → PairsWithin b l
+  unfolding pairs_match
+  pairs-within t e = record { rows = λ k h. rows-within t k h (all_true (pair_matches b l) (pairs b) e k h) }
+
+-- ---- E, where nothing forbidden is weighed
+
+pub part_given : (t : Bool) (x : ℕ) {y : ℕ} → weighed t x ≡ Some y → (t ≡ true) × (y ≡ x)
+part_given true x e = (refl, cc)
+part_given false x e = let z : ◌≡◌ {A = ℕ} 0 1 = cc in absurd (omega arith)
+
+pub none_given : (t : Bool) (x : ℕ) → weighed t x ≡ None → t ≡ false
+none_given true x e = let z : ◌≡◌ {A = ℕ} 0 1 = cc in absurd (omega arith)
+none_given false x e = refl
+
+-- the parts so far with the next one, and the first that is not there
+module _ (p : ℕ → Bool) (f : ℕ → ℕ) {r : Option ℕ} where
+  pub next_part : (k : ℕ) {s x : ℕ} → s ≡ sum k f → all k p ≡ true → r ≡ weighed (p k) (f k) → r ≡ Some x → (s + x ≡ sum (k + 1) f) × (all (k + 1) p ≡ true)
+  next_part k e t g h =
+      let q = part_given (p k) (f k) (sym g ∙ h) in
+      (omega (arith, q.1, sum_more k f), all_more p k t q.0)
+
+  pub no_part : (n k : ℕ) → k < n → r ≡ weighed (p k) (f k) → r ≡ None → weighed (all n p) (sum n f) ≡ None
+  no_part n k h g e = rw (all_false p n k h (none_given (p k) (f k) (sym g ∙ e)))
+
+-- H and T are open at the same entries, so that T says which weights are spared
+module _ {b : List ℤ} (s : Study b) (l : List ℕ) where
+  pub train_open : (i : ℕ) → i < trains b → run_weighed l (choices_before (shape_of b) i) b (held_choice_place i 0) (size b i) ≡ weighed (train_spared b l i) (train_weighted b l i)
+  unfolding train_spared train_weighted
+  train_open i h = ap (λ (t : Bool). weighed t (run_weighted l (choices_before (shape_of b) i) b (held_choice_place i 0) (size b i))) (all_cong (size b i) _ _ same)
+    where
+      same : (a : ℕ) → a < size b i
+          → weight_spared b (held_choice_place i 0 + a) (get_or l (choices_before (shape_of b) i + a) 0) ≡ weight_spared b (loaded_choice_place i 0 + a) (get_or l (choices_before (shape_of b) i + a) 0)
+      same a q =
+          let e : held_choice_place i 0 + a ≡ held_choice_place i a = omega arith in
+          let f : loaded_choice_place i 0 + a ≡ loaded_choice_place i a = omega arith in
+          rw (e, f, choice_open_lem s i a h q)
+
+  pub row_open : (k : ℕ) → k < pairs b → (a : ℕ) → a < size b (first b k)
+      → run_weighed l (entries_from b k + size b (second b k) * a) b (held_entry_place k a 0) (size b (second b k)) ≡ weighed (row_spared b l k a) (row_weighted b l k a)
+  unfolding row_spared row_weighted
+  row_open k h a q = ap (λ (t : Bool). weighed t (run_weighted l (entries_from b k + size b (second b k) * a) b (held_entry_place k a 0) (size b (second b k)))) (all_cong (size b (second b k)) _ _ same)
+    where
+      same : (c : ℕ) → c < size b (second b k)
+          → weight_spared b (held_entry_place k a 0 + c) (get_or l (entries_from b k + size b (second b k) * a + c) 0)
+          ≡ weight_spared b (loaded_entry_place k a 0 + c) (get_or l (entries_from b k + size b (second b k) * a + c) 0)
+      same c r =
+          let e : held_entry_place k a 0 + c ≡ held_entry_place k a c = omega arith in
+          let f : loaded_entry_place k a 0 + c ≡ loaded_entry_place k a c = omega arith in
+          rw (e, f, entry_open_lem s k h a c q r)
 
 -- ---- the runs say what the rule says
 
@@ -220,27 +267,37 @@ pub trains-within : {b : List ℤ} {l : List ℕ} {full_weight : ℕ} → full_w
 unfolding trains_match
 trains-within {b} {l} {full_weight} h e = record { sums = λ i q. let t : run_sum l (choices_before (shape_of b) i) 1 (size b i) ≡ full_weight = eqb-true _ _ (all_true (train_matches b l full_weight) (trains b) e i q) in omega arith }
 
--- a part was given where the sums agree, and none where they disagree
-pub part_given : (t : Bool) (x : ℕ) {y : ℕ} → cond t (Part x) Disagree ≡ Part y → (t ≡ true) × (y ≡ x)
-part_given true x e = (refl, cc)
-part_given false x e = let z : ◌≡◌ {A = ℕ} 0 1 = cc in absurd (omega arith)
-
-pub none_given : (t : Bool) (x : ℕ) → cond t (Part x) Disagree ≡ Disagree → t ≡ false
-none_given true x e = let z : ◌≡◌ {A = ℕ} 0 1 = cc in absurd (omega arith)
-none_given false x e = refl
-
 -- so E fits
 pub floor_most : {b : List ℤ} {full_weight : ℕ} → Study b → full_weight ≤ max_full_weight → full_weight * constant b ≤ max_run
 floor_most s h = mul-le-mul h (constant_range s)
 
 pub parts_most : {b : List ℤ} (l : List ℕ) {full_weight : ℕ} → Study b → full_weight ≤ max_full_weight → trains_match b l full_weight ≡ true → pairs_match b l ≡ true
     → trains_weighted b l + pairs_weighted b l ≤ max_trains * max_run + max_pairs * (max_choices * max_run)
-unfolding trains_match trains_weighted pairs_match pairs_weighted
+unfolding trains_weighted pairs_weighted
 parts_most {b} l s h e f =
+    let t : TrainsWithin b l = trains-within h e in
     omega (
       arith,
-      trains_most s l h (trains b) (omega arith) e,
-      pairs_most s (trains-within h e) (pairs b) (omega arith) f,
+      trains_most s l (trains b) (omega arith) t.sums,
+      pairs_most s (pairs b) (omega arith) (pairs-within s t f).rows,
       trains_range s,
       pairs_range s,
     )
+
+-- ---- what each function needs, for `grind`
+
+pub ruleset sums = (sum_none, sum_more)
+
+pub ruleset pair_runs = (first-below-trains, second-below-trains, trains_range, pairs_range, rows_runs, columns_runs)
+
+pub ruleset pair_walk = (sum_none, sum_more, all-zero, all_more, pair_inside)
+
+pub ruleset run_walk = (sum_none, sum_more, all-zero, all_more, run_fits, weight_open, weight_none)
+
+pub ruleset train_part = (trains_range, train_weights, train_open)
+
+pub ruleset parts = (sum_none, sum_more, all-zero, all_more, part_given, trains_next, pairs_next)
+
+pub ruleset row_places = (pairs_range, rows_range, row_inside)
+
+pub ruleset judged = (balanced_runs, both_true, trains-within, pairs-within, spared_runs, weighted_runs, part_given, none_given, floor_most, parts_most)

@@ -1,12 +1,13 @@
 -- Document 01, '05 certify': weights, their sums, E and whether the ceiling is reached.
-use Rattle.std.specs.Prelude.{◌≡◌, Bool, cond, ◌&&◌, ◌||◌, List, ℕ, ◌+◌, ◌*◌, ◌^◌, ◌<◌, eqb, ℤ, length, get_or}
+use Rattle.std.specs.Prelude.{◌≡◌, Bool, cond, ◌&&◌, ◌||◌, List, ℕ, ◌+◌, ◌*◌, ◌^◌, ◌<◌, eqb, ℤ, length, get_or, Result, Ok, Err}
 use Rattle.theory.specs.Sum.{sum}
 use Rattle.theory.specs.Range.{all}
 use Rattle.tables.specs.Block.{constant}
 use Rattle.tables.specs.Plans.{Shape, Costs, shape_of, held_costs}
 use Rattle.tables.specs.Counts.{choice_count, weight_count, choice_index, entry_index}
-use Rattle.certificates.specs.declared.certify.Certificate.{Certificate}
-use Rattle.certificates.specs.declared.certify.Certificate.TheVariants.{Unbalanced, Forbidden, Balanced}
+use Rattle.refusals.specs.declared.Refusal.{Refusal}
+use Rattle.refusals.specs.declared.Refusal.TheVariants.{Sums, ForbiddenWeight}
+use Rattle.certificates.specs.declared.certify.Ceiling.{Ceiling}
 
 -- '(3 each)': what is above each weight of a line
 abbrev pub weights_below : ℕ
@@ -80,7 +81,8 @@ abbrev pub ceiling : List ℤ → Weights → ℕ
 ceiling b w = weighted (shape_of b) w (held_costs b)
 
 -- 'Reached means E = W × c0'; the sums are judged first, then what is forbidden
-abbrev pub certificate : List ℤ → Weights → Certificate
+abbrev pub certificate : List ℤ → Weights → Result Ceiling Refusal
 certificate b w =
     cond (balanced (shape_of b) w)
-    (cond (spared (shape_of b) w) (Balanced (record { reached = eqb (ceiling b w) (w.full_weight * constant b); weighted = ceiling b w })) Forbidden) Unbalanced
+    (cond (spared (shape_of b) w) (Ok (record { reached = eqb (ceiling b w) (w.full_weight * constant b); weighted = ceiling b w })) (Err ForbiddenWeight))
+    (Err Sums)

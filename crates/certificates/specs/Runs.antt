@@ -1,5 +1,5 @@
 -- The rule of specs/Certify.antt by runs of weights, as the code goes through them. No part of the rule: proofs/Runs.antt shows that they say the same.
-use Rattle.std.specs.Prelude.{◌≡◌, Bool, cond, ◌&&◌, ◌||◌, List, ℕ, ◌+◌, ◌*◌, ◌<◌, ◌≤◌, eqb, ℤ, length, get_or}
+use Rattle.std.specs.Prelude.{◌≡◌, Bool, cond, ◌&&◌, ◌||◌, List, ℕ, ◌+◌, ◌*◌, ◌<◌, ◌≤◌, eqb, ℤ, length, get_or, Option, Some, None}
 use Rattle.theory.specs.Sum.{sum}
 use Rattle.theory.specs.Range.{all}
 use Rattle.tables.specs.LineLimits.{max_full_weight}
@@ -7,8 +7,6 @@ use Rattle.tables.specs.Block.{max_choices, max_parts, loaded_choice_place, load
 use Rattle.tables.specs.WellFormed.{is_open}
 use Rattle.tables.specs.Plans.{shape_of}
 use Rattle.tables.specs.Counts.{choices_before, choice_count, entries_before}
-use Rattle.certificates.specs.declared.certify.Judged.{Judged}
-use Rattle.certificates.specs.declared.certify.Judged.TheVariants.{Disagree, Part}
 use Rattle.certificates.specs.Certify.{weights_below}
 
 -- ---- one run
@@ -88,19 +86,15 @@ pair_weighted b l k = sum (size b (first b k)) (row_weighted b l k)
 unfoldable pub pairs_weighted : List ℤ → List ℕ → ℕ
 pairs_weighted b l = sum (pairs b) (pair_weighted b l)
 
--- E's part that the trains have, and the pairs, where their sums agree
-abbrev pub trains_judged : List ℤ → List ℕ → ℕ → Judged
-trains_judged b l full_weight = cond (trains_match b l full_weight) (Part (trains_weighted b l)) Disagree
-
-abbrev pub pairs_judged : List ℤ → List ℕ → Judged
-pairs_judged b l = cond (pairs_match b l) (Part (pairs_weighted b l)) Disagree
-
--- no train's weights, and no row's of pair k, sum to more than W may be: so it is once they have been judged
+-- no train's weights, no row's of pair k, and no row's of any pair, sum to more than W may be: so it is once they have been judged
 pub record TrainsWithin (b : List ℤ) (l : List ℕ) : Type 0 where
   pub sums : (i : ℕ) → i < trains b → run_sum l (choices_before (shape_of b) i) 1 (size b i) ≤ max_full_weight
 
 pub record RowsWithin (b : List ℤ) (l : List ℕ) (k : ℕ) : Type 0 where
   pub sums : (a : ℕ) → a < size b (first b k) → run_sum l (entries_from b k + size b (second b k) * a) 1 (size b (second b k)) ≤ max_full_weight
+
+pub record PairsWithin (b : List ℤ) (l : List ℕ) : Type 0 where
+  pub rows : (k : ℕ) → k < pairs b → RowsWithin b l k
 
 -- ---- what is forbidden, by runs
 
@@ -127,3 +121,25 @@ pair_spared b l k = all (size b (first b k)) (row_spared b l k)
 
 unfoldable pub pairs_spared : List ℤ → List ℕ → Bool
 pairs_spared b l = all (pairs b) (pair_spared b l)
+
+-- ---- E's parts, where nothing forbidden is weighed
+
+abbrev pub weighed : Bool → ℕ → Option ℕ
+weighed t x = cond t (Some x) None
+
+-- `count` weights from `from` on, and their places of the block, from `place` on
+abbrev pub run_weighed : List ℕ → ℕ → List ℤ → ℕ → ℕ → Option ℕ
+run_weighed l from b place count = weighed (run_spared l from b place count) (run_weighted l from b place count)
+
+-- train i, the trains, pair k, and the pairs
+abbrev pub train_weighed : List ℤ → List ℕ → ℕ → Option ℕ
+train_weighed b l i = weighed (train_spared b l i) (train_weighted b l i)
+
+abbrev pub trains_weighed : List ℤ → List ℕ → Option ℕ
+trains_weighed b l = weighed (trains_spared b l) (trains_weighted b l)
+
+abbrev pub pair_weighed : List ℤ → List ℕ → ℕ → Option ℕ
+pair_weighed b l k = weighed (pair_spared b l k) (pair_weighted b l k)
+
+abbrev pub pairs_weighed : List ℤ → List ℕ → Option ℕ
+pairs_weighed b l = weighed (pairs_spared b l) (pairs_weighted b l)

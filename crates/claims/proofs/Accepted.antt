@@ -1,4 +1,5 @@
 -- Which replies are accepted, by the kind that they show.
+use Rattle.std.specs.Prelude.{Ok, Err}
 use mathlib.Core.Path.{◌≡◌, refl}
 use mathlib.Core.Bool.{true, false, and-false}
 use mathlib.Core.List.{List, [], ◌∷◌}
@@ -10,8 +11,7 @@ use lib.ListN.{length}
 use borrow.Author.Tests.{lt-ltb, ne_eqb}
 use Rattle.theory.proofs.Range.{not_both}
 use Rattle.refusals.specs.declared.Refusal.{Refusal}
-use Rattle.refusals.specs.declared.Verdict.{Verdict}
-use Rattle.refusals.specs.declared.Verdict.TheVariants.{Fine, Declined}
+use Rattle.refusals.specs.Verdicts.{Verdict, Fine}
 use Rattle.tables.specs.Numbers.{Numbers}
 use Rattle.certificates.specs.declared.certify.Ceiling.{Ceiling}
 use Rattle.frames.specs.Digits.{digit, byte_at}
@@ -64,8 +64,8 @@ bound_accepted kind b = accepted_as (bound_reply kind b) (omega (arith, bound_ki
 
 -- an operation whose reply is accepted is done
 pub operated_done : (kind : Kind) (v : Verdict) (old new : List ℤ) → accepted (operated kind v old new).reply ≡ true → v ≡ Fine
-operated_done kind Fine old new y = refl
-operated_done kind (Declined r) old new y = absurd (not_both y (refusal_refused r))
+operated_done kind (Ok _) old new y = refl
+operated_done kind (Err r) old new y = absurd (not_both y (refusal_refused r))
 
 pub certify_accepted : (full_weight : ℕ) (c : Ceiling) → accepted (certify_reply full_weight c) ≡ true
 certify_accepted full_weight c = kind_accepted Certify (certify_reply full_weight c) (certify_kind full_weight c)

@@ -1,5 +1,6 @@
 -- After any list of calls from the fresh block the block is fresh still, or it and the ledger keep together: before the first accepted load only a load, of kind 01 or 09, is accepted, and each call
 -- after it keeps them together.
+use Rattle.std.specs.Prelude.{Ok, Err}
 use mathlib.Core.Path.{◌≡◌, refl, sym, subst}
 use mathlib.Core.Bool.{Bool, true, false, cond, ◌&&◌}
 use mathlib.Core.List.{List, [], ◌∷◌, ◌++◌}
@@ -9,12 +10,10 @@ use lib.IntN.{ℤ}
 use lib.ListN.{length}
 use Rattle.theory.specs.Range.{pass}
 use Rattle.theory.proofs.Range.{not_both, both_true}
-use Rattle.refusals.specs.declared.Verdict.{Verdict}
-use Rattle.refusals.specs.declared.Verdict.TheVariants.{Fine, Declined}
+use Rattle.refusals.specs.Verdicts.{Verdict, Fine}
 use Rattle.tables.specs.WellFormed.{is_zero, well_formed, fresh_block, is_fresh}
 use Rattle.tables.proofs.Study.{study_well_formed}
 use Rattle.lines.specs.declared.kind.Kind.TheVariants as kind
-use Rattle.lines.specs.declared.kind.NewKind.TheVariants.{Known}
 use Rattle.lines.specs.declared.request.Request.{Request}
 use Rattle.lines.specs.declared.request.Request.TheVariants.{Load, Add, Shift, Tighten, Certify, Search, Save, Round, Clauses}
 use Rattle.lines.specs.Kinds.{new_kind, request_kind}
@@ -69,16 +68,16 @@ module _ (g : Ledger) (l : List ℕ) where
   called_quiet reply e c = record { state = inl refl; kept = λ y. absurd (not_both (both_true (accepted reply) (by_kind loads false l) y).0 e); call = rw (fed_refused g l reply e) c }
 
   -- on a fresh block clauses load, or are declined
-  new_clauses : new_kind (kind_of l) ≡ Known kind.Clauses → clauses_verdict l ≡ Fine → Called g fresh_block l (requested (clauses_request l) l fresh_block)
+  new_clauses : new_kind (kind_of l) ≡ Ok kind.Clauses → clauses_verdict l ≡ Fine → Called g fresh_block l (requested (clauses_request l) l fresh_block)
   unfolding requested
   new_clauses e v = go (outcome_of l) refl
     where
       go : (o : Verdict) → outcome_of l ≡ o → Called g fresh_block l (clauses_answer l fresh_block o)
-      go Fine f = called_good (good_clauses g l fresh_block e v f)
-      go (Declined r) f = called_quiet (refusal_reply r) (refusal_refused r) (declined-call g fresh_block l r (clauses_allowed g l r e f))
+      go (Ok _) f = called_good (good_clauses g l fresh_block e v f)
+      go (Err r) f = called_quiet (refusal_reply r) (refusal_refused r) (declined-call g fresh_block l r (clauses_allowed g l r e f))
 
   -- on a fresh block only what loads is asked
-  new_request : (q : Request) → Makes l fresh_block q → new_kind (kind_of l) ≡ Known (request_kind q) → Called g fresh_block l (requested q l fresh_block)
+  new_request : (q : Request) → Makes l fresh_block q → new_kind (kind_of l) ≡ Ok (request_kind q) → Called g fresh_block l (requested q l fresh_block)
   new_request (Load q) m e = called_good (subst (λ (s : Request). Good g fresh_block l (requested s l fresh_block)) (sym m.0) (good_load g l fresh_block e m.1))
   new_request (Add q) m e = absurd (not_both fresh_is m.2)
   new_request (Shift q) m e = absurd (not_both fresh_is m.2)

@@ -1,4 +1,6 @@
 -- What a declined call leaves: the block as it was, and no reply but its two bytes, for 17 none.
+use Rattle.std.specs.Prelude.{Result, Ok, Err}
+use Rattle.certificates.specs.declared.certify.Ceiling.{Ceiling}
 use mathlib.Core.Path.{◌≡◌, refl}
 use mathlib.Core.Bool.{true, false}
 use mathlib.Core.List.{List, []}
@@ -8,9 +10,8 @@ use lib.IntN.{ℤ}
 use lib.ListN.{length}
 use Rattle.theory.proofs.Range.{not_both}
 use Rattle.refusals.specs.declared.Refusal.{Refusal}
-use Rattle.refusals.specs.declared.Refusal.TheVariants.{Sums, Malformed, ForbiddenWeight}
-use Rattle.refusals.specs.declared.Verdict.{Verdict}
-use Rattle.refusals.specs.declared.Verdict.TheVariants.{Fine, Declined}
+use Rattle.refusals.specs.declared.Refusal.TheVariants.{Malformed}
+use Rattle.refusals.specs.Verdicts.{Verdict}
 use Rattle.tables.specs.Block.{trains}
 use Rattle.tables.specs.WellFormed.{well_formed}
 use Rattle.operations.specs.Add.{added, add_outcome}
@@ -21,8 +22,6 @@ use Rattle.rewriting.specs.Judged.{kept}
 use Rattle.shift.specs.Shift.{shifted, shift_outcome}
 use Rattle.tighten.specs.Tighten.{tightened, tighten_outcome}
 use Rattle.directional.specs.Directional.{directed, direct_outcome}
-use Rattle.certificates.specs.declared.certify.Certificate.{Certificate}
-use Rattle.certificates.specs.declared.certify.Certificate.TheVariants.{Unbalanced, Forbidden, Balanced}
 use Rattle.certificates.specs.Certify.{weights_of, certificate}
 use Rattle.frames.specs.Runs.{run_of, signed_run_of}
 use Rattle.lines.specs.declared.kind.Kind.{Kind}
@@ -61,13 +60,12 @@ either_empty : (b : List ℤ) → Either b (answered b [])
 either_empty b = inr (record { block = refl; reply = inl refl })
 
 either_operated : (kind : Kind) (v : Verdict) (old new : List ℤ) → Either old (operated kind v old new)
-either_operated kind Fine old new = inl (bound_accepted kind new)
-either_operated kind (Declined r) old new = either_declined old r
+either_operated kind (Ok _) old new = inl (bound_accepted kind new)
+either_operated kind (Err r) old new = either_declined old r
 
-either_certified : (full_weight : ℕ) (c : Certificate) (b : List ℤ) → Either b (certified full_weight c b)
-either_certified full_weight Unbalanced b = either_declined b Sums
-either_certified full_weight Forbidden b = either_declined b ForbiddenWeight
-either_certified full_weight (Balanced c) b = inl (certify_accepted full_weight c)
+either_certified : (full_weight : ℕ) (c : Result Ceiling Refusal) (b : List ℤ) → Either b (certified full_weight c b)
+either_certified full_weight (Err r) b = either_declined b r
+either_certified full_weight (Ok c) b = inl (certify_accepted full_weight c)
 
 module _ (l : List ℕ) (b : List ℤ) where
   either_requested : (q : Request) → Either b (requested q l b)
@@ -83,7 +81,7 @@ module _ (l : List ℕ) (b : List ℤ) where
   either_requested (Search q) = inl (search_accepted (trains b) (search_answer b q.budget))
   either_requested Save = inl (save_accepted (saved_numbers b))
   either_requested Round = either_operated kind.Round (direct_outcome b) b (kept b (directed b))
-  either_requested (Clauses q) = either_operated kind.Clauses (clauses_outcome q.trains q.scale.0 (clauses_of l)) b (loaded_block (clause_numbers_of l))
+  either_requested (Clauses q) = either_operated kind.Clauses (clauses_outcome q.trains q.scale (clauses_of l)) b (loaded_block (clause_numbers_of l))
 
   either_line : (room : ℕ) → longest_fixed ≤ room → well_formed b ≡ true → Either b (line_answer l b room)
   either_line room h right = line_cases l b room h right (λ a. Either b a) (λ r e. either_declined b r) (λ q a f. either_requested q) (λ q a f. either_empty b)

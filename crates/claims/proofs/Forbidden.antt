@@ -1,15 +1,15 @@
 -- What no line but a load changes: an addition writes natural numbers where such stood; moves never meet H, and the tables of a study are mates, so that T is forbidden where H is.
+use Rattle.std.specs.Prelude.{Result, Ok, Err}
+use Rattle.refusals.specs.declared.Refusal.{Refusal}
+use Rattle.certificates.specs.declared.certify.Ceiling.{Ceiling}
 use mathlib.Core.Path.{◌≡◌, refl, sym, ap, ◌∙◌}
 use mathlib.Core.Bool.{false}
-use mathlib.Core.List.{List, []}
+use mathlib.Core.List.{List}
 use Prim.Native.Nat.{ℕ, ◌<◌, ◌≤◌}
 use lib.IntN.{ℤ}
 use lib.ListN.{length}
 use Rattle.theory.proofs.Range.{not_both}
-use Rattle.refusals.specs.declared.Refusal.TheVariants.{Malformed}
-use Rattle.refusals.specs.declared.Verdict.{Verdict}
-use Rattle.refusals.specs.declared.Verdict.TheVariants.{Fine, Declined}
-use Rattle.refusals.specs.Verdicts.{settled}
+use Rattle.refusals.specs.Verdicts.{Verdict, settled}
 use Rattle.tables.specs.Block.{block_length, loaded_choices_from, at}
 use Rattle.tables.specs.WellFormed.{is_open, Study}
 use Rattle.operations.specs.Add.{added, add_outcome}
@@ -25,8 +25,6 @@ use Rattle.tighten.specs.Tighten.{tightened}
 use Rattle.tighten.proofs.Ends.{tighten_rewrites}
 use Rattle.directional.specs.Directional.{directed}
 use Rattle.directional.proofs.Ends.{direct_rewrites}
-use Rattle.certificates.specs.declared.certify.Certificate.{Certificate}
-use Rattle.certificates.specs.declared.certify.Certificate.TheVariants.{Unbalanced, Forbidden, Balanced}
 use Rattle.certificates.specs.Certify.{weights_of, certificate}
 use Rattle.frames.specs.Runs.{run_of, signed_run_of}
 use Rattle.lines.specs.declared.kind.Kind.{Kind}
@@ -35,13 +33,11 @@ use Rattle.lines.specs.declared.request.Request.{Request}
 use Rattle.lines.specs.declared.request.Request.TheVariants.{Load, Add, Shift, Tighten, Certify, Search, Save, Round, Clauses}
 use Rattle.lines.specs.Layout.{move_width, weight_width}
 use Rattle.reader.proofs.LineKind.{line_known}
-use Rattle.replies.specs.Replies.{refusal_reply}
-use Rattle.requests.specs.Answer.{Answer, answered, operated, certified, requested}
+use Rattle.requests.specs.Answer.{operated, certified, requested}
 use Rattle.requests.specs.Wrote.{Asks}
 use Rattle.requests.proofs.Ready.{study_ready, add_ready}
 use Rattle.requests.proofs.Outcomes.{operated_leaves}
 use Rattle.requests.proofs.LineCases.{line_cases}
-use Rattle.service.specs.Answer.{answer}
 use Rattle.service.proofs.AnswerCases.{fixed_fit, answer_cases}
 use Rattle.claims.specs.Ledger.{by_kind, loads}
 use Rattle.claims.specs.Forbidden.{ForbiddenStays}
@@ -57,17 +53,16 @@ judged_alike s v p l h = sym (mates_open (judged_study s v) p l h) ∙ ap is_ope
 
 -- an addition, done or declined
 settled_alike : (b c : List ℤ) (v : Verdict) → Alike b c → Alike b (settled v b c)
-settled_alike b c Fine e = e
-settled_alike b c (Declined r) e = λ p l h. refl
+settled_alike b c (Ok _) e = e
+settled_alike b c (Err r) e = λ p l h. refl
 
 -- by the block that an operation leaves
 operated_alike : (b c : List ℤ) (kind : Kind) (v : Verdict) → Alike b (settled v b c) → Alike b (operated kind v b c).block
 operated_alike b c kind v e p l h = ap (λ (d : List ℤ). is_open (at d p)) (operated_leaves kind v b c) ∙ e p l h
 
-certified_alike : (full_weight : ℕ) (c : Certificate) (b : List ℤ) → Alike b (certified full_weight c b).block
-certified_alike full_weight Unbalanced b p l h = refl
-certified_alike full_weight Forbidden b p l h = refl
-certified_alike full_weight (Balanced c) b p l h = refl
+certified_alike : (full_weight : ℕ) (c : Result Ceiling Refusal) (b : List ℤ) → Alike b (certified full_weight c b).block
+certified_alike full_weight (Err r) b p l h = refl
+certified_alike full_weight (Ok c) b p l h = refl
 
 module _ (l : List ℕ) (b : List ℤ) (other : by_kind loads false l ≡ false) (room : ℕ) where
   -- a request that is no load

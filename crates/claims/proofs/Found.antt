@@ -1,4 +1,5 @@
 -- What certificates and searches say by the ledger's costs, before it is written as characters. A rival of the ledger is one of the block, since their shapes and costs agree where they are used.
+use Rattle.std.specs.Prelude.{Ok}
 use mathlib.Core.Path.{◌≡◌, refl, sym, ap, ap₂, subst, ◌∙◌}
 use mathlib.Core.Bool.{true, cond}
 use mathlib.Core.List.{List}
@@ -14,14 +15,13 @@ use Rattle.tables.specs.Plans.{Shape, AlikeShapes, Costs, IsPlan, Open, choices_
 use Rattle.tables.proofs.Plans.{Shaped, study_shaped, first-size, second-size}
 use Rattle.tables.proofs.Study.{scale_range}
 use Rattle.bounds.specs.Bounds.{bound_of}
-use Rattle.certificates.specs.declared.certify.Certificate.TheVariants.{Balanced}
 use Rattle.certificates.specs.declared.certify.Ceiling.{Ceiling}
 use Rattle.certificates.specs.Certify.{Weights, certificate}
 use Rattle.certificates.specs.Rival.{Fraction, as_fraction, plus, times, sum_of, AtMost, Rival, IsRival, ConstantAtMost, scaled}
 use Rattle.certificates.proofs.Ceilings.{certify_rival, rival_cong, rival_alike}
 use Rattle.weights.specs.Rival.{Amounts, given_of, Leaves, LiftsAtMost}
 use Rattle.weights.proofs.Certified.{certify_moved}
-use Rattle.search.specs.Answer.{search_answer}
+use Rattle.search.specs.Answer.{is_found, found_cost, found_plan, search_answer}
 use Rattle.search.proofs.Theorems.{answer_plan, answer_cost, answer-least}
 use Rattle.claims.specs.Ledger.{Ledger, cost_of}
 use Rattle.claims.specs.Claims.{PlanOf, scaled_cost, start_costs}
@@ -60,7 +60,7 @@ module _ {s u : Shape} (e : AlikeShapes s u) where
 
 module _ {g : Ledger} {b : List ℤ} (k : Keeps g b) where
   -- 'W × the constant of every rival is at most E', where nothing is forbidden
-  pub ceiling_holds : (w : Weights) {c : Ceiling} → certificate b w ≡ Balanced c → Open g.shape → (r : Rival) → IsRival g.shape (scaled_cost g) r
+  pub ceiling_holds : (w : Weights) {c : Ceiling} → certificate b w ≡ Ok c → Open g.shape → (r : Rival) → IsRival g.shape (scaled_cost g) r
       → ConstantAtMost w.full_weight c.weighted r
   ceiling_holds w e o r is =
       certify_rival w k.study (open_in k o) e r
@@ -78,7 +78,7 @@ module _ {g : Ledger} {b : List ℤ} (k : Keeps g b) where
       }
 
   -- 'the ceiling is at least the constant that results', on every study
-  pub moved_holds : (w : Weights) {c : Ceiling} → certificate b w ≡ Balanced c → (up down : Amounts) → Leaves g.shape (start_costs g) up down
+  pub moved_holds : (w : Weights) {c : Ceiling} → certificate b w ≡ Ok c → (up down : Amounts) → Leaves g.shape (start_costs g) up down
       → LiftsAtMost g.shape w.full_weight c.weighted up down
   moved_holds w {c} e up down l =
       let same = k.same.shape_same in
@@ -98,21 +98,21 @@ module _ {g : Ledger} {b : List ℤ} (k : Keeps g b) where
 
   module _ (budget : ℕ) where
     -- a plan that is known is one of the ledger's, and its cost is shown
-    pub known_plan : (search_answer b budget).found ≡ true → PlanOf g (choices_of (search_answer b budget).plan) × ((search_answer b budget).cost.0 ≡ cost_of g (choices_of (search_answer b budget).plan))
+    pub known_plan : is_found (search_answer b budget) ≡ true → PlanOf g (choices_of (found_plan (search_answer b budget))) × (found_cost (search_answer b budget) ≡ cost_of g (choices_of (found_plan (search_answer b budget))))
     known_plan e =
-        let x = choices_of (search_answer b budget).plan in
+        let x = choices_of (found_plan (search_answer b budget)) in
         let p = answer_plan k.study budget e in
         (plan_out k x p, answer_cost k.study budget e (cost_of g x) (points x p))
 
     -- a cost that is shown is far below the characters FF
-    pub known_low : (search_answer b budget).found ≡ true → (search_answer b budget).cost.0 ≤ (max_trains + max_pairs) * max_cost
+    pub known_low : is_found (search_answer b budget) ≡ true → found_cost (search_answer b budget) ≤ (max_trains + max_pairs) * max_cost
     known_low e =
-        let x = choices_of (search_answer b budget).plan in
+        let x = choices_of (found_plan (search_answer b budget)) in
         let p = answer_plan k.study budget e in
         omega (arith, (known_plan e).1, cost_is k x p, loaded_total_most k.study x p)
 
     -- where there is a plan an ended search knows one, and no plan costs less
-    pub ended_least : (search_answer b budget).ended ≡ true → (x : ℕ → ℕ) → PlanOf g x → ((search_answer b budget).found ≡ true) × ((search_answer b budget).cost.0 ≤ cost_of g x)
+    pub ended_least : (search_answer b budget).ended ≡ true → (x : ℕ → ℕ) → PlanOf g x → (is_found (search_answer b budget) ≡ true) × (found_cost (search_answer b budget) ≤ cost_of g x)
     ended_least e x p =
         let q = plan_in k x p in
         let f = answer-least k.study budget bound_lowest e x q in

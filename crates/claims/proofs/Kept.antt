@@ -24,7 +24,7 @@ use Rattle.operations.proofs.Added.{added-closed, add_same_shape, add_same_open,
 use Rattle.rewriting.specs.Judged.{judged_block}
 use Rattle.rewriting.proofs.Shape.{Moved, Any}
 use Rattle.rewriting.proofs.Rewritten.{judged_study, judged_loaded, judged_alike}
-use Rattle.weights.proofs.Weighs.{Weighs, open_weighted, load_weighs, more, add_weighs, alike_weighs, weighs_total}
+use Rattle.weights.proofs.Weighs.{Weighs, open_weighted, load_weighs, add_weighs, alike_weighs, weighs_total}
 use Rattle.weights.proofs.Held.{judged_weighs}
 use Rattle.lines.specs.Layout.{add_train, add_choice, add_points}
 use Rattle.claims.specs.Ledger.{Ledger, numbers_ledger, added_ledger}

@@ -1,6 +1,7 @@
 -- What is claimed of one call, from what its reply shows: the figures were read back (`ReadBack` in `replies`), and each kind of reply has a claim of its own.
+use Rattle.std.specs.Prelude.{Ok}
 use mathlib.Core.Path.{◌≡◌, refl, sym, ap, ap₂, ◌∙◌}
-use mathlib.Core.Bool.{Bool, true, false, not, ◌&&◌}
+use mathlib.Core.Bool.{Bool, true, false, not}
 use mathlib.Core.List.{List, []}
 use Prim.Native.Nat.{ℕ, ◌*◌, ◌-◌, ◌<◌, ◌≤◌, ◌^◌}
 use native.Mathlib.Omega.{arith}
@@ -21,10 +22,10 @@ use Rattle.weights.specs.Rival.{Amounts, Leaves, LiftsAtMost}
 use Rattle.frames.specs.Digits.{digit, byte_at}
 use Rattle.frames.specs.Fields.{field}
 use Rattle.lines.specs.declared.kind.Kind.{Kind}
-use Rattle.lines.specs.declared.kind.NewKind.TheVariants.{Known}
 use Rattle.lines.specs.Kinds.{new_kind}
 use Rattle.lines.specs.Layout.{kind_of}
 use Rattle.search.specs.declared.answer.Found.{Found}
+use Rattle.search.specs.Answer.{is_found, found_cost, found_plan}
 use Rattle.replies.specs.Replies.{refusal_reply, figure_width, choice_width, flag, bound_reply, certify_reply, shown_cost, shown_choice, search_reply}
 use Rattle.replies.specs.Shown.{kind_shown, says_ended, says_ended_without, cost_shown, plan_shown, shows_plan}
 use Rattle.replies.proofs.ReadBack.{refusal_number_lem, constant-shown, bound_shown_lem, certify_flag, certify_weighted, certify_full_weight_lem, search_ended, search_without, search_cost, search_plan}
@@ -41,7 +42,7 @@ module _ (g : Ledger) (b : List ℤ) (l reply : List ℕ) where
   at_refused e n m = record { line = λ a. absurd (not_both a e); never-outside = n; never-malformed = m }
 
   -- a reply under the line's own kind, which is no refusal
-  pub at_accepted : (k : Kind) → new_kind (kind_of l) ≡ Known k → kind_shown reply ≡ shown_kind k → Claim k g b (exchange l reply) → AtCall g b (exchange l reply)
+  pub at_accepted : (k : Kind) → new_kind (kind_of l) ≡ Ok k → kind_shown reply ≡ shown_kind k → Claim k g b (exchange l reply) → AtCall g b (exchange l reply)
   unfolding DeclinedAs
   at_accepted k known shown claim =
       record {
@@ -90,10 +91,10 @@ ceiling_claim g b l full_weight c z h q e holds moved =
 pub record Right (g : Ledger) (n : ℕ) (f : Found) : Type 0 where
   pub trains : n ≡ g.shape.trains
   pub inside : (j : ℕ) → j < g.shape.pairs → (g.shape.first j < n) × (g.shape.second j < n)
-  pub low : f.found ≡ true → f.cost.0 < 256 ^ figure_width - 1
-  pub small : (i : ℕ) → i < n → get_or f.plan i 0 < 256
-  pub plan : f.found ≡ true → PlanOf g (choices_of f.plan) × (f.cost.0 ≡ cost_of g (choices_of f.plan))
-  pub ended : f.ended ≡ true → (x : ℕ → ℕ) → PlanOf g x → (f.found ≡ true) × (f.cost.0 ≤ cost_of g x)
+  pub low : is_found f ≡ true → found_cost f < 256 ^ figure_width - 1
+  pub small : (i : ℕ) → i < n → get_or (found_plan f) i 0 < 256
+  pub plan : is_found f ≡ true → PlanOf g (choices_of (found_plan f)) × (found_cost f ≡ cost_of g (choices_of (found_plan f)))
+  pub ended : f.ended ≡ true → (x : ℕ → ℕ) → PlanOf g x → (is_found f ≡ true) × (found_cost f ≤ cost_of g x)
 
 -- choices that agree with a plan's on every train are a plan
 plan_as : (s : Shape) (x y : ℕ → ℕ) → ((i : ℕ) → i < s.trains → y i ≡ x i) → ((j : ℕ) → j < s.pairs → (s.first j < s.trains) × (s.second j < s.trains)) → IsPlan s x → IsPlan s y
@@ -106,39 +107,39 @@ plan_as s x y same inside p =
 
 module _ (g : Ledger) (l : List ℕ) (n : ℕ) (f : Found) (r : Right g n f) where
   -- where a plan is known, it is what the reply shows
-  module _ (e : f.found ≡ true) where
-    cost_known : cost_shown (search_reply n f) ≡ f.cost.0
+  module _ (e : is_found f ≡ true) where
+    cost_known : cost_shown (search_reply n f) ≡ found_cost f
     cost_known =
-        let s : shown_cost f ≡ f.cost.0 = rw e in
+        let s : shown_cost f ≡ found_cost f = rw e in
         search_cost n f (omega (arith, s, r.low e)) ∙ s
 
-    choice_known : (i : ℕ) → shown_choice f i ≡ choices_of f.plan i
+    choice_known : (i : ℕ) → shown_choice f i ≡ choices_of (found_plan f) i
     choice_known i = rw e
 
-    plan_known : (i : ℕ) → i < n → plan_shown (search_reply n f) i ≡ choices_of f.plan i
+    plan_known : (i : ℕ) → i < n → plan_shown (search_reply n f) i ≡ choices_of (found_plan f) i
     plan_known i h = search_plan n f i h (omega (arith, choice_known i, r.small i h)) ∙ choice_known i
 
     pub known_shows : shows_plan (search_reply n f) ≡ true
-    known_shows = rw (cost_known, ne_eqb f.cost.0 (256 ^ figure_width - 1) (λ q. omega (arith, r.low e)))
+    known_shows = rw (cost_known, ne_eqb (found_cost f) (256 ^ figure_width - 1) (λ q. omega (arith, r.low e)))
 
     -- on each train of the ledger, and its pairs are of these
-    shown_same : (i : ℕ) → i < g.shape.trains → plan_shown (search_reply n f) i ≡ choices_of f.plan i
+    shown_same : (i : ℕ) → i < g.shape.trains → plan_shown (search_reply n f) i ≡ choices_of (found_plan f) i
     shown_same i h = plan_known i (omega (arith, r.trains))
 
     pairs_inside : (j : ℕ) → j < g.shape.pairs → (g.shape.first j < g.shape.trains) × (g.shape.second j < g.shape.trains)
     pairs_inside j h = omega (arith, r.inside j h, r.trains)
 
     known_plan : PlanOf g (plan_shown (search_reply n f))
-    known_plan = plan_as g.shape (choices_of f.plan) (plan_shown (search_reply n f)) shown_same pairs_inside (r.plan e).0
+    known_plan = plan_as g.shape (choices_of (found_plan f)) (plan_shown (search_reply n f)) shown_same pairs_inside (r.plan e).0
 
     known_cost : cost_shown (search_reply n f) ≡ cost_of g (plan_shown (search_reply n f))
     known_cost =
         cost_known
         ∙ (r.plan e).1
-        ∙ plan_cong g.shape g.costs (choices_of f.plan) (plan_shown (search_reply n f)) (λ i h. sym (shown_same i h)) pairs_inside
+        ∙ plan_cong g.shape g.costs (choices_of (found_plan f)) (plan_shown (search_reply n f)) (λ i h. sym (shown_same i h)) pairs_inside
 
   -- where none is known, the reply shows FF
-  module _ (e : f.found ≡ false) where
+  module _ (e : is_found f ≡ false) where
     unknown_hides : shows_plan (search_reply n f) ≡ false
     unknown_hides =
         let s : shown_cost f ≡ 256 ^ figure_width - 1 = rw e in
@@ -149,19 +150,19 @@ module _ (g : Ledger) (l : List ℕ) (n : ℕ) (f : Found) (r : Right g n f) whe
         let s : shown_choice f i ≡ 256 ^ choice_width - 1 = rw e in
         search_plan n f i h (omega (arith, s)) ∙ s
 
-  shows_known : shows_plan (search_reply n f) ≡ true → f.found ≡ true
-  shows_known s = go f.found refl
+  shows_known : shows_plan (search_reply n f) ≡ true → is_found f ≡ true
+  shows_known s = go (is_found f) refl
     where
-      go : (t : Bool) → f.found ≡ t → f.found ≡ true
+      go : (t : Bool) → is_found f ≡ t → is_found f ≡ true
       go true e = e
       go false e = absurd (not_both s (unknown_hides e))
 
   -- 01 says ended, and shows a plan; 02 says ended, and shows none
-  says_found : says_ended (search_reply n f) ≡ true → (f.ended ≡ true) × (f.found ≡ true)
-  says_found s = both_true f.ended f.found (sym (search_ended n f) ∙ s)
+  says_found : says_ended (search_reply n f) ≡ true → (f.ended ≡ true) × (is_found f ≡ true)
+  says_found s = both_true f.ended (is_found f) (sym (search_ended n f) ∙ s)
 
-  says_none : says_ended_without (search_reply n f) ≡ true → (f.ended ≡ true) × (f.found ≡ false)
-  says_none s = let w = both_true f.ended (not f.found) (sym (search_without n f) ∙ s) in (w.0, not-true f.found w.1)
+  says_none : says_ended_without (search_reply n f) ≡ true → (f.ended ≡ true) × (is_found f ≡ false)
+  says_none s = let w = both_true f.ended (not (is_found f)) (sym (search_without n f) ∙ s) in (w.0, not-true (is_found f) w.1)
 
   pub search_claim : SearchClaim g (exchange l (search_reply n f))
   search_claim =

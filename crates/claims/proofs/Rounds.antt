@@ -1,4 +1,5 @@
 -- What a line of kind 08 leaves: where it is accepted, the block that the round of a study leaves, of which `directional` has the laws; where it is declined, the block as it was.
+use Rattle.std.specs.Prelude.{Ok}
 use mathlib.Core.Path.{◌≡◌, refl, ◌∙◌}
 use mathlib.Core.Bool.{Bool, true, false}
 use mathlib.Core.List.{List}
@@ -6,14 +7,13 @@ use Prim.Native.Nat.{ℕ, ◌≤◌}
 use native.Mathlib.Omega.{arith}
 use lib.IntN.{ℤ}
 use lib.ListN.{length}
-use Rattle.refusals.specs.declared.Verdict.TheVariants.{Fine}
+use Rattle.refusals.specs.Verdicts.{Fine}
 use Rattle.tables.specs.Block.{constant}
 use Rattle.tables.specs.WellFormed.{Study}
 use Rattle.rewriting.specs.Judged.{kept}
 use Rattle.directional.specs.Directional.{directed, direct_outcome, direct_block}
 use Rattle.directional.proofs.Ends.{direct_raises_constant, direct_block_least}
 use Rattle.lines.specs.declared.kind.Kind.TheVariants as kind
-use Rattle.lines.specs.declared.kind.NewKind.TheVariants.{Known}
 use Rattle.lines.specs.declared.request.Request.TheVariants.{Round}
 use Rattle.lines.specs.Kinds.{new_kind}
 use Rattle.lines.specs.Layout.{kind_of}
@@ -30,7 +30,7 @@ use Rattle.claims.proofs.Accepted.{operated_done}
 use Rattle.claims.proofs.Declined.{declined_leaves}
 use Rattle.claims.proofs.Shifts.{accepted_asks, asking_kind}
 
-module _ (l : List ℕ) (b : List ℤ) (buffer : List ℕ) (known : new_kind (kind_of l) ≡ Known kind.Round) (y : accepted (answer l b buffer).reply ≡ true) where
+module _ (l : List ℕ) (b : List ℤ) (buffer : List ℕ) (known : new_kind (kind_of l) ≡ Ok kind.Round) (y : accepted (answer l b buffer).reply ≡ true) where
   asked : Asks l b Round (length buffer)
   asked = asking_kind kind.Round (accepted_asks l b buffer y) known
 

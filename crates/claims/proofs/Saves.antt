@@ -24,7 +24,8 @@ use Rattle.lines.specs.Text.{load_digits}
 use Rattle.kinds.specs.Load.{load_request}
 use Rattle.decoding.specs.Numbers.{numbers_of}
 use Rattle.decoding.proofs.LoadRange.{load_in_range}
-use Rattle.reader.specs.Reading.{study_line, kind_line, line_of}
+use Rattle.kinds.specs.Lines.{study_line}
+use Rattle.reader.specs.Reading.{kind_line, line_of}
 use Rattle.reader.proofs.LineAccepted.{line_makes}
 use Rattle.saving.proofs.Together.{save_framed, save_kind, save_again, save_study, save_as_loaded}
 use Rattle.saving.proofs.SavedLines.{save_read, save_after_line}

@@ -1,5 +1,6 @@
 -- A shift line and the block afterwards, from the line's own characters: u_i and the moves are the numbers that stand at their offsets, and the block that an accepted line leaves
 -- has document 01's three equations by them, at permitted entries; forbidden ones stay. 12 is answered exactly where one of these numbers would be below 0 or above L.
+use Rattle.std.specs.Prelude.{Ok}
 use mathlib.Core.Path.{◌≡◌, refl, ap, ◌∙◌, subst}
 use mathlib.Core.Bool.{Bool, true, false}
 use mathlib.Core.List.{List}
@@ -10,9 +11,7 @@ use lib.ListN.{length}
 use Rattle.theory.proofs.Range.{not_both}
 use Rattle.theory.proofs.Lists.{list_nth}
 use Rattle.refusals.specs.declared.Refusal.TheVariants.{PartsOutside, Malformed}
-use Rattle.refusals.specs.declared.Verdict.{Verdict}
-use Rattle.refusals.specs.declared.Verdict.TheVariants.{Declined}
-use Rattle.refusals.specs.Verdicts.{unless}
+use Rattle.refusals.specs.Verdicts.{Verdict, Declined, unless}
 use Rattle.tables.specs.Block.{constant_place, held_choice_place, held_entry_place, at, trains, pairs, size, first, second}
 use Rattle.tables.specs.WellFormed.{holds_study, Study}
 use Rattle.tables.specs.Plans.{shape_of}
@@ -26,7 +25,6 @@ use Rattle.shift.proofs.Equations.{shift_forbidden, shift_declined, shift_ends_l
 use Rattle.frames.specs.Runs.{signed_run_of}
 use Rattle.lines.specs.declared.kind.Kind.{Kind}
 use Rattle.lines.specs.declared.kind.Kind.TheVariants as kind
-use Rattle.lines.specs.declared.kind.NewKind.TheVariants.{Known}
 use Rattle.lines.specs.declared.request.Shift as declared-shift
 use Rattle.lines.specs.declared.request.Request.{Request}
 use Rattle.lines.specs.declared.request.Request.TheVariants.{Shift}
@@ -70,7 +68,7 @@ accepted_asks l b buffer =
     (λ q a f y. absurd (not_both y empty_refused)))
 
 -- of a line of kind k it is the one of that kind
-pub asking_kind : (k : Kind) {l : List ℕ} {b : List ℤ} {buffer : List ℕ} (w : Asking l b buffer) → new_kind (kind_of l) ≡ Known k → Asks l b (kind_request k l b) (length buffer)
+pub asking_kind : (k : Kind) {l : List ℕ} {b : List ℤ} {buffer : List ℕ} (w : Asking l b buffer) → new_kind (kind_of l) ≡ Ok k → Asks l b (kind_request k l b) (length buffer)
 asking_kind k {l} {b} {buffer} w known =
     let own = line_known l b w.request w.asks.asked in
     let same : request_kind w.request ≡ k = cc in

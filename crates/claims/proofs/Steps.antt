@@ -1,4 +1,6 @@
 -- One call: it keeps block and ledger together, and what is claimed of it holds.
+use Rattle.std.specs.Prelude.{Ok, Err}
+use Rattle.certificates.specs.declared.certify.Ceiling.{Ceiling}
 use mathlib.Core.Path.{◌≡◌, refl, sym, ap, subst, ◌∙◌}
 use mathlib.Core.Bool.{Bool, true, false}
 use mathlib.Core.List.{List, []}
@@ -11,10 +13,8 @@ use lib.ListN.{length}
 use Rattle.theory.proofs.Range.{not_both}
 use Rattle.refusals.specs.declared.Refusal.{Refusal}
 use Rattle.refusals.specs.declared.Refusal.TheVariants.{CostAbove, PartsOutside, Sums, ForbiddenWeight, PairsAbove}
-use Rattle.refusals.specs.declared.Verdict.{Verdict}
-use Rattle.refusals.specs.declared.Verdict.TheVariants.{Fine, Declined}
+use Rattle.refusals.specs.Verdicts.{Verdict, Fine, Declined, settled, unless}
 use Rattle.refusals.specs.Refusals.{refusal_number}
-use Rattle.refusals.specs.Verdicts.{settled, unless}
 use Rattle.tables.specs.Block.{max_trains, max_pairs, max_cost, max_parts, trains, scale, size, first, second, loaded_choice, held_choice}
 use Rattle.tables.specs.LineLimits.{max_full_weight}
 use Rattle.tables.specs.WellFormed.{holds_study, Study}
@@ -37,14 +37,11 @@ use Rattle.tighten.specs.Tighten.{tightened}
 use Rattle.tighten.proofs.Ends.{tighten_rewrites, tighten_within}
 use Rattle.directional.specs.Directional.{directed}
 use Rattle.directional.proofs.Ends.{direct_rewrites}
-use Rattle.certificates.specs.declared.certify.Certificate.{Certificate}
-use Rattle.certificates.specs.declared.certify.Certificate.TheVariants.{Unbalanced, Forbidden, Balanced}
 use Rattle.certificates.specs.Certify.{weights_of, certificate}
-use Rattle.certificates.proofs.Ceilings.{certify_ceiling, certify_fits}
+use Rattle.certificates.proofs.Ceilings.{certify_cases, certify_ceiling, certify_fits}
 use Rattle.frames.specs.Runs.{run_of, signed_run_of}
 use Rattle.lines.specs.declared.kind.Kind.{Kind}
 use Rattle.lines.specs.declared.kind.Kind.TheVariants as kind
-use Rattle.lines.specs.declared.kind.NewKind.TheVariants.{Known}
 use Rattle.lines.specs.declared.request.Request.{Request}
 use Rattle.lines.specs.declared.request.Request.TheVariants.{Load, Add, Shift, Tighten, Certify, Search, Save, Round, Clauses}
 use Rattle.lines.specs.declared.request.Line.TheVariants.{Refused}
@@ -63,7 +60,7 @@ use Rattle.reader.proofs.LineAccepted.{Makes, line_makes, add_there}
 use Rattle.reader.proofs.LineKind.{line_known}
 use Rattle.reader.proofs.LineRefused.{of_reading, line_refused}
 use Rattle.search.specs.Answer.{search_answer}
-use Rattle.search.proofs.Theorems.{search_entries}
+use Rattle.search.proofs.Theorems.{answer_entries}
 use Rattle.replies.specs.Replies.{refusal_reply, reply_kind, figure_width, bound_reply, certify_reply, search_reply, longest_fixed}
 use Rattle.replies.specs.Shown.{kind_shown}
 use Rattle.replies.proofs.ReadBack.{bound_kind, certify_kind, search_kind}
@@ -91,7 +88,7 @@ module _ (g : Ledger) (l reply : List ℕ) where
   unfolding fed
   fed_refused e = rw e
 
-  pub fed_kind : (k : Kind) → accepted reply ≡ true → new_kind (kind_of l) ≡ Known k → fed (exchange l reply) g ≡ changed k l g
+  pub fed_kind : (k : Kind) → accepted reply ≡ true → new_kind (kind_of l) ≡ Ok k → fed (exchange l reply) g ≡ changed k l g
   unfolding fed
   fed_kind k e known = rw (e, known)
 
@@ -107,7 +104,7 @@ good_by : (g h : Ledger) (b : List ℤ) (l : List ℕ) (a : Answer) → fed (exc
 good_by g h b l a e k c = record { keeps = rw e k; call = rw e c }
 
 -- an accepted line of kind k, which is answered under k: by the ledger as k changes it
-good_kind : (g : Ledger) (b : List ℤ) (l : List ℕ) (k : Kind) (a : Answer) → new_kind (kind_of l) ≡ Known k → kind_shown a.reply ≡ shown_kind k → Keeps (changed k l g) a.block
+good_kind : (g : Ledger) (b : List ℤ) (l : List ℕ) (k : Kind) (a : Answer) → new_kind (kind_of l) ≡ Ok k → kind_shown a.reply ≡ shown_kind k → Keeps (changed k l g) a.block
     → Claim k (changed k l g) b (exchange l a.reply) → Good g b l a
 good_kind g b l k a known shown keeps claim =
     good_by g (changed k l g) b l a (fed_kind g l a.reply k (kind_accepted k a.reply shown) known) keeps (at_accepted (changed k l g) b l a.reply k known shown claim)
@@ -145,14 +142,14 @@ bound_fits : {b : List ℤ} → Study b → bound_of b < 256 ^ figure_width
 bound_fits s = omega (arith, bound_room s)
 
 -- of a kind that claims no more and is answered under its own byte
-good_bound : (g : Ledger) (old : List ℤ) (l : List ℕ) (k : Kind) (b : List ℤ) → new_kind (kind_of l) ≡ Known k → reply_kind k ≡ shown_kind k
+good_bound : (g : Ledger) (old : List ℤ) (l : List ℕ) (k : Kind) (b : List ℤ) → new_kind (kind_of l) ≡ Ok k → reply_kind k ≡ shown_kind k
     → (BoundClaim (changed k l g) (exchange l (bound_reply k b)) → Claim k (changed k l g) old (exchange l (bound_reply k b))) → Keeps (changed k l g) b → Good g old l (answered b (bound_reply k b))
 good_bound g old l k b known own claim keeps =
     good_kind g old l k (answered b (bound_reply k b)) known (bound_kind k b ∙ own) keeps (claim (bound_claim (changed k l g) l k b (bound_fits keeps.study) (bound_low keeps)))
 
 -- ---- load, on any block
 
-pub good_load : (g : Ledger) (l : List ℕ) (b : List ℤ) → new_kind (kind_of l) ≡ Known kind.Load → load_verdict l ≡ Fine → Good g b l (requested (load_request l) l b)
+pub good_load : (g : Ledger) (l : List ℕ) (b : List ℤ) → new_kind (kind_of l) ≡ Ok kind.Load → load_verdict l ≡ Fine → Good g b l (requested (load_request l) l b)
 unfolding requested
 good_load g l b e v = good_bound g b l kind.Load (loaded_block (numbers_of l)) e refl (λ c. c) (load_keeps (numbers_of l) (load_in_range l v))
 
@@ -165,13 +162,13 @@ clauses_answer l b v = operated kind.Clauses v b (loaded_block (clause_numbers_o
 abbrev pub outcome_of : List ℕ → Verdict
 outcome_of l = clauses_outcome (load_trains l) (load_scale l) (clauses_of l)
 
-pub good_clauses : (g : Ledger) (l : List ℕ) (b : List ℤ) → new_kind (kind_of l) ≡ Known kind.Clauses → clauses_verdict l ≡ Fine → outcome_of l ≡ Fine → Good g b l (clauses_answer l b Fine)
+pub good_clauses : (g : Ledger) (l : List ℕ) (b : List ℤ) → new_kind (kind_of l) ≡ Ok kind.Clauses → clauses_verdict l ≡ Fine → outcome_of l ≡ Fine → Good g b l (clauses_answer l b Fine)
 good_clauses g l b e v fine =
     let r = clauses_in_limits l v in
     good_bound g b l kind.Clauses (loaded_block (clause_numbers_of l)) e refl (λ c. record { bound_shown_lem = c; weights = clauses-total r fine }) (load_keeps (clause_numbers_of l) (clauses_in_range r fine))
 
 -- it is declined with 20 or 10 only
-pub clauses_allowed : (g : Ledger) (l : List ℕ) (r : Refusal) → new_kind (kind_of l) ≡ Known kind.Clauses → outcome_of l ≡ Declined r → Allowed g l r
+pub clauses_allowed : (g : Ledger) (l : List ℕ) (r : Refusal) → new_kind (kind_of l) ≡ Ok kind.Clauses → outcome_of l ≡ Declined r → Allowed g l r
 clauses_allowed g l r e f =
     record { not_outside = λ u. absurd (not_both u (by_kind_lem never_outside false l e)); not_malformed = apart (clauses-declined (load_trains l) (load_scale l) (clauses_of l) r f) }
   where
@@ -183,7 +180,7 @@ clauses_allowed g l r e f =
 
 module _ {g : Ledger} {b : List ℤ} (k : Keeps g b) (l : List ℕ) where
   -- a rewriting whose moves end at c is done where c, with what is forbidden put back, holds a study; else it is declined with 12
-  good_judged : (kd : Kind) (c : List ℤ) → new_kind (kind_of l) ≡ Known kd → reply_kind kd ≡ shown_kind kd → Keeps (changed kd l g) (judged_block b c)
+  good_judged : (kd : Kind) (c : List ℤ) → new_kind (kind_of l) ≡ Ok kd → reply_kind kd ≡ shown_kind kd → Keeps (changed kd l g) (judged_block b c)
       → (BoundClaim (changed kd l g) (exchange l (bound_reply kd (kept b c))) → holds_study (kept b c) ≡ true → Claim kd (changed kd l g) b (exchange l (bound_reply kd (kept b c))))
       → (never_outside kd ≡ true → Open g.shape → holds_study (kept b c) ≡ true) → Good g b l (operated kd (judged b c) b (kept b c))
   good_judged kd c e own keeps claim never = go (holds_study (kept b c)) refl keeps
@@ -196,7 +193,7 @@ module _ {g : Ledger} {b : List ℤ} (k : Keeps g b) (l : List ℕ) where
           (record { not_outside = λ w o _. not_both (never (sym (by_kind_lem never_outside false l e) ∙ w) o) h; not_malformed = λ q. omega arith })
 
   -- a shift
-  good_shift : new_kind (kind_of l) ≡ Known kind.Shift → Good g b l (requested (shift_request (trains b) (move_count (shape_of b))) l b)
+  good_shift : new_kind (kind_of l) ≡ Ok kind.Shift → Good g b l (requested (shift_request (trains b) (move_count (shape_of b))) l b)
   unfolding requested
   good_shift e =
       let lifts = signed_run_of l lift_field.at move_width (trains b) in
@@ -204,13 +201,13 @@ module _ {g : Ledger} {b : List ℤ} (k : Keeps g b) (l : List ℕ) where
       good_judged kind.Shift (shifted lifts moves b) e refl (judged_keeps k (shift_rewrites k.study lifts moves)) (λ d h. d) (λ w. absurd (not_both w refl))
 
   -- a tightening, which is done where nothing is forbidden
-  good_tighten : new_kind (kind_of l) ≡ Known kind.Tighten → Good g b l (requested Tighten l b)
+  good_tighten : new_kind (kind_of l) ≡ Ok kind.Tighten → Good g b l (requested Tighten l b)
   unfolding requested
   good_tighten e =
       good_judged kind.Tighten (tightened b) e refl (judged_keeps k (tighten_rewrites k.study)) (λ d h. d) (λ w o. tighten_within k.study (open_in k o) (held-total_most k))
 
   -- and so is a round
-  good_round : new_kind (kind_of l) ≡ Known kind.Round → Good g b l (requested Round l b)
+  good_round : new_kind (kind_of l) ≡ Ok kind.Round → Good g b l (requested Round l b)
   unfolding requested
   good_round e =
       good_judged kind.Round (directed b) e refl (round_keeps k)
@@ -247,7 +244,7 @@ module _ {g : Ledger} {b : List ℤ} (k : Keeps g b) (l : List ℕ) where
           add-within k.study (add_train l) (add_choice l) (add_points l) there in_size o low
           (λ x p. rw (add-scaled k (add_train l) (add_choice l) (add_points l) there in_size x p) (scaled_most k.study (loaded_total sum_block x) (sum_loaded x p)))
 
-    module _ (e : new_kind (kind_of l) ≡ Known kind.Add) where
+    module _ (e : new_kind (kind_of l) ≡ Ok kind.Add) where
       -- by its verdict
       by_add : (v : Verdict) → v ≡ add_outcome (add_train l) (add_choice l) (add_points l) b → Good g b l (operated kind.Add v b sum_block) → Good g b l (requested (add_request l) l b)
       unfolding requested
@@ -286,58 +283,59 @@ module _ {g : Ledger} {b : List ℤ} (k : Keeps g b) (l : List ℕ) where
 
   -- ---- certificates, searches and saves change nothing
 
-  good_certify : new_kind (kind_of l) ≡ Known kind.Certify → (1 ≤ certify_full_weight l) × (certify_full_weight l ≤ max_full_weight) → Good g b l (requested (certify_request l (weight_count (shape_of b))) l b)
+  good_certify : new_kind (kind_of l) ≡ Ok kind.Certify → (1 ≤ certify_full_weight l) × (certify_full_weight l ≤ max_full_weight) → Good g b l (requested (certify_request l (weight_count (shape_of b))) l b)
   unfolding requested
-  good_certify e low = go (certificate b (weights_of b (certify_full_weight l) weights)) refl
+  good_certify e low =
+      certify_cases b (weights_of b (certify_full_weight l) weights) (λ v. Good g b l (certified (certify_full_weight l) v b))
+      (good_declined k l Sums (record { not_outside = λ w o q. omega arith; not_malformed = λ q. omega arith }))
+      (good_declined k l ForbiddenWeight (record { not_outside = λ w o q. omega arith; not_malformed = λ q. omega arith }))
+      accepted_lem
     where
       weights : List ℕ
       weights = run_of l weight_field.at weight_width (weight_count (shape_of b))
 
-      go : (c : Certificate) → certificate b (weights_of b (certify_full_weight l) weights) ≡ c → Good g b l (certified (certify_full_weight l) c b)
-      go Unbalanced h = good_declined k l Sums (record { not_outside = λ w o q. omega arith; not_malformed = λ q. omega arith })
-      go Forbidden h = good_declined k l ForbiddenWeight (record { not_outside = λ w o q. omega arith; not_malformed = λ q. omega arith })
-      go (Balanced c) h =
+      accepted_lem : (c : Ceiling) → certificate b (weights_of b (certify_full_weight l) weights) ≡ Ok c → Good g b l (certified (certify_full_weight l) (Ok c) b)
+      accepted_lem c h =
           let w = certify_ceiling b (weights_of b (certify_full_weight l) weights) h in
           good_kind g b l kind.Certify (answered b (certify_reply (certify_full_weight l) c)) e (certify_kind (certify_full_weight l) c) k
           (ceiling_claim g b l (certify_full_weight l) c low.0 (omega (arith, low.1)) (omega (arith, certify_fits (certify_full_weight l) weights k.study low.1 h)) (rw w.shown w.reached)
           (ceiling_holds k (weights_of b (certify_full_weight l) weights) h) (moved_holds k (weights_of b (certify_full_weight l) weights) h))
 
   found_right : (budget : ℕ) → Right g (trains b) (search_answer b budget)
-  unfolding search_answer
   found_right budget =
       record {
         trains = k.same.shape_same.trains_same;
         inside = alike_inside k.same.shape_same (study_shaped k.study);
         low = λ e. omega (arith, known_low k budget e);
-        small = λ i h. omega (arith, (search_entries k.study budget).1 i h, size_range k.study i h);
+        small = λ i h. omega (arith, (answer_entries k.study budget).1 i h, size_range k.study i h);
         plan = known_plan k budget;
         ended = ended_least k budget;
       }
 
-  good_search : new_kind (kind_of l) ≡ Known kind.Search → Good g b l (requested (search_request l) l b)
+  good_search : new_kind (kind_of l) ≡ Ok kind.Search → Good g b l (requested (search_request l) l b)
   unfolding requested
   good_search e =
       let f = search_answer b (search_budget l) in
       good_kind g b l kind.Search (answered b (search_reply (trains b) f)) e (search_kind (trains b) f) k (search_claim g l (trains b) f (found_right (search_budget l)))
 
-  good_save : new_kind (kind_of l) ≡ Known kind.Save → Good g b l (requested Save l b)
+  good_save : new_kind (kind_of l) ≡ Ok kind.Save → Good g b l (requested Save l b)
   unfolding requested
   good_save e = good_kind g b l kind.Save (saved b) e (save_kind k.study) k (save_claim k l)
 
-  good_clauses_line : new_kind (kind_of l) ≡ Known kind.Clauses → clauses_verdict l ≡ Fine → Good g b l (requested (clauses_request l) l b)
+  good_clauses_line : new_kind (kind_of l) ≡ Ok kind.Clauses → clauses_verdict l ≡ Fine → Good g b l (requested (clauses_request l) l b)
   unfolding requested
   good_clauses_line e v = go (outcome_of l) refl
     where
       go : (o : Verdict) → outcome_of l ≡ o → Good g b l (clauses_answer l b o)
-      go Fine f = good_clauses g l b e v f
-      go (Declined r) f = good_declined k l r (clauses_allowed g l r e f)
+      go (Ok _) f = good_clauses g l b e v f
+      go (Err r) f = good_declined k l r (clauses_allowed g l r e f)
 
   -- ---- every request
 
   as_asked : (q r : Request) → q ≡ r → Good g b l (requested r l b) → Good g b l (requested q l b)
   as_asked q r e x = subst (λ (s : Request). Good g b l (requested s l b)) (sym e) x
 
-  good_request : (q : Request) → Makes l b q → new_kind (kind_of l) ≡ Known (request_kind q) → Good g b l (requested q l b)
+  good_request : (q : Request) → Makes l b q → new_kind (kind_of l) ≡ Ok (request_kind q) → Good g b l (requested q l b)
   good_request (Load q) m e = as_asked (Load q) (load_request l) m.0 (good_load g l b e m.1)
   good_request (Add q) m e =
       let w = add_there k.study (add_fine l b m.1) in

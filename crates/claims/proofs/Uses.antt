@@ -1,7 +1,8 @@
 -- What follows from each part of demand 3's statement (specs/Claims.antt), on document 01's J and its session, for a round on a branch line, and with forbidden entries on D and the clique: what the replies there say, and wrong replies that the statement excludes. Each law
 -- has the statement as its premise, not the service, so a part that said less would leave its law here without a proof.
+use Rattle.std.specs.Prelude.{Result, Ok, Err}
 use mathlib.Core.Path.{◌≡◌, refl, subst}
-use mathlib.Core.Bool.{true, false, cond, not, ◌&&◌}
+use mathlib.Core.Bool.{true, false, cond, ◌&&◌}
 use mathlib.Core.List.{List, [], ◌∷◌}
 use Prim.Native.Nat.{ℕ, zero, suc, ◌<◌, ◌≤◌}
 use Prim.Native.String.{String}
@@ -13,7 +14,8 @@ use Rattle.theory.specs.Sum.{sum}
 use Rattle.theory.specs.Lists.{list_from}
 use Rattle.theory.specs.Range.{pass}
 use Rattle.theory.proofs.Range.{not_both}
-use Rattle.refusals.specs.declared.Refusal.TheVariants.{Fields}
+use Rattle.refusals.specs.declared.Refusal.{Refusal}
+use Rattle.refusals.specs.declared.Refusal.TheVariants.{Fields, NoKind}
 use Rattle.refusals.specs.Verdicts.{first_of}
 use Rattle.tables.specs.Block.{loaded_choice_place, held_choice_place, loaded_entry_place, held_entry_place, at, trains, scale, pairs, constant, size, first, second, loaded_choice, loaded_entry}
 use Rattle.tables.specs.WellFormed.{is_open, fresh_block}
@@ -27,8 +29,8 @@ use Rattle.frames.specs.Digits.{digit, byte_at}
 use Rattle.frames.specs.Fields.{field, signed}
 use Rattle.frames.specs.Frames.{all_digits, framed}
 use Rattle.frames.specs.Text.{codes}
+use Rattle.lines.specs.declared.kind.Kind.{Kind}
 use Rattle.lines.specs.declared.kind.Kind.TheVariants.{Load, Add, Shift, Tighten, Certify, Search, Save, Round, Clauses}
-use Rattle.lines.specs.declared.kind.NewKind.TheVariants.{Known, NoSuch}
 use Rattle.lines.specs.declared.request.Line.TheVariants.{Asked, Refused}
 use Rattle.lines.specs.Kinds.{new_kind}
 use Rattle.lines.specs.Layout.{pair_at}
@@ -36,7 +38,8 @@ use Rattle.lines.specs.Verdicts.{field_verdict}
 use Rattle.kinds.specs.Load.{pair_ordered, pair_verdict, head_verdict, rest_verdict, load_verdict}
 use Rattle.decoding.specs.Numbers.{entries_of, numbers_of}
 use Rattle.decoding.specs.Clauses.{clauses_of}
-use Rattle.reader.specs.Reading.{study_line, kind_line, line_of}
+use Rattle.kinds.specs.Lines.{study_line}
+use Rattle.reader.specs.Reading.{kind_line, line_of}
 use Rattle.replies.specs.Shown.{bound_shown}
 use Rattle.requests.specs.Answer.{line_answer}
 use Rattle.service.specs.Answer.{min_buffer, answer}
@@ -256,7 +259,7 @@ module _ {b : List ℤ} where
   -- a line of no kind
   no_kind : AtLine j b (told "FF" "81000000000000000000000000") → ⊥
   unfolding told
-  no_kind a = let z : NoSuch ≡ Known a.kind = a.known in let h : ◌≡◌ {A = ℕ} 0 1 = cc in omega arith
+  no_kind a = let z : ◌≡◌ {A = Result Kind Refusal} (Err NoKind) (Ok a.kind) = a.known in cc
 
   -- an 01 line answered under 84
   other_kind : AtLine j b (told load "84000000000000000000000000") → ⊥

@@ -1,6 +1,6 @@
 -- Demand 3 of document 01, as one claim about a whole list of calls from a fresh block. Nothing else stands in this file; `demand` in proofs/Demand.antt proves it. What follows from each
 -- part of it, so that it cannot be said more weakly unseen, stands in proofs/Uses.antt; the name of the law there is in brackets.
-use Rattle.std.specs.Prelude.{◌≡◌, Bool, true, false, not, List, [], ◌∷◌, ℕ, ◌+◌, ◌*◌, ◌-◌, ◌<◌, ◌≤◌, ◌^◌, eqb, ℤ}
+use Rattle.std.specs.Prelude.{◌≡◌, Bool, true, false, List, [], ◌∷◌, ℕ, ◌*◌, ◌-◌, ◌<◌, ◌≤◌, ◌^◌, eqb, ℤ, Ok}
 use Rattle.tables.specs.Block.{held_choice_place, held_entry_place, at, trains, scale, pairs, constant, size, first, second, loaded_choice, loaded_entry}
 use Rattle.tables.specs.WellFormed.{is_open, well_formed, fresh_block}
 use Rattle.tables.specs.Plans.{AlikeShapes, Costs, IsPlan, Open, Branches, LeastOf, shape_of, held_total}
@@ -10,7 +10,6 @@ use Rattle.certificates.specs.Rival.{Rival, IsRival, ConstantAtMost}
 use Rattle.weights.specs.Rival.{Amounts, Leaves, LiftsAtMost}
 use Rattle.lines.specs.declared.kind.Kind.{Kind}
 use Rattle.lines.specs.declared.kind.Kind.TheVariants.{Load, Add, Shift, Tighten, Certify, Search, Save, Round, Clauses}
-use Rattle.lines.specs.declared.kind.NewKind.TheVariants.{Known}
 use Rattle.lines.specs.declared.request.Line.TheVariants.{Asked}
 use Rattle.lines.specs.Kinds.{kind_number, new_kind}
 use Rattle.lines.specs.Layout.{kind_of}
@@ -143,7 +142,7 @@ shown_kind Clauses = reply_kind Clauses
 pub record AtLine (g : Ledger) (b : List ℤ) (e : Exchange) : Type 0 where
   -- 'The first byte is the kind': an accepted line has one (`no_kind`)
   pub kind : Kind
-  pub known : new_kind (kind_of e.line) ≡ Known kind
+  pub known : new_kind (kind_of e.line) ≡ Ok kind
   -- it is answered under its own kind (`other_kind`, `save_under_87`)
   pub answered : kind_shown e.reply ≡ shown_kind kind
   -- and what its kind claims holds

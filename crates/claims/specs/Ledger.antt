@@ -1,11 +1,10 @@
 -- Document 01, 'Lists and the ledger': what the ledger knows of a list of lines, each with its reply.
-use Rattle.std.specs.Prelude.{Bool, true, false, cond, ◌&&◌, not, List, [], ◌∷◌, ℕ, ◌+◌, ltb, eqb, length}
+use Rattle.refusals.specs.declared.Refusal.{Refusal}
+use Rattle.std.specs.Prelude.{Bool, true, false, cond, ◌&&◌, not, List, [], ◌∷◌, ℕ, ◌+◌, ltb, eqb, length, Result, Ok, Err}
 use Rattle.tables.specs.Numbers.{Numbers, numbers, numbers_shape, numbers_costs}
 use Rattle.tables.specs.Plans.{Shape, Costs, total}
 use Rattle.lines.specs.declared.kind.Kind.{Kind}
 use Rattle.lines.specs.declared.kind.Kind.TheVariants.{Load, Add, Shift, Tighten, Certify, Search, Save, Round, Clauses}
-use Rattle.lines.specs.declared.kind.NewKind.{NewKind}
-use Rattle.lines.specs.declared.kind.NewKind.TheVariants.{Known, NoSuch}
 use Rattle.lines.specs.Kinds.{new_kind}
 use Rattle.lines.specs.Layout.{kind_of, add_train, add_choice, add_points}
 use Rattle.decoding.specs.Numbers.{numbers_of}
@@ -49,9 +48,9 @@ added_ledger l g =
 -- ---- what goes by the kind of a line
 
 -- this of a kind, the other where there is none
-abbrev pub if_known : {A : Type 0} → (Kind → A) → A → NewKind → A
-if_known f other (Known k) = f k
-if_known f other NoSuch = other
+abbrev pub if_known : {A : Type 0} → (Kind → A) → A → Result Kind Refusal → A
+if_known f other (Ok k) = f k
+if_known f other (Err _) = other
 
 -- 'The first byte is the kind': this of the line's kind, the other where it has none
 abbrev pub by_kind : {A : Type 0} → (Kind → A) → A → List ℕ → A

@@ -11,8 +11,7 @@ use lib.IntN.{ℤ}
 use lib.ListN.{length}
 use Rattle.refusals.specs.declared.Refusal.{Refusal}
 use Rattle.refusals.specs.declared.Refusal.TheVariants.{CostAbove, PairsAbove}
-use Rattle.refusals.specs.declared.Verdict.TheVariants.{Fine, Declined}
-use Rattle.refusals.specs.Verdicts.{then, unless}
+use Rattle.refusals.specs.Verdicts.{Fine, Declined, then, unless}
 use Rattle.refusals.proofs.Verdicts.{then_fine, unless_fine}
 use Rattle.tables.specs.Block.{max_pairs}
 use Rattle.tables.specs.WellFormed.{Study}

@@ -1,7 +1,6 @@
 -- Each clause has one cell, and a plan goes through it just where it fails the clause. By the signs of the two literals.
 use mathlib.Core.Path.{◌≡◌, refl, sym, ap, ap₂, ◌∙◌}
 use mathlib.Core.Bool.{Bool, true, cond, not, ◌&&◌, and-true, and_self, and_comm}
-use mathlib.Core.List.{List}
 use mathlib.Core.Logic.{dite}
 use Prim.Native.Nat.{ℕ, zero, suc, ◌+◌, ◌*◌, ◌-◌, ◌/◌, ◌%◌, ◌<◌, ◌≤◌, min}
 use native.Mathlib.Decide.{dec_lt, ℕ_discrete}
@@ -12,7 +11,7 @@ use lib.IntN.{ℤ, pos, negsuc, nat_abs}
 use Rattle.theory.specs.Sum.{sum}
 use Rattle.tables.specs.Block.{max_trains, at}
 use Rattle.theory.proofs.Range.{both_true, bool_ext}
-use Rattle.clauses.specs.Clauses.{Clauses, count, literals_right, Clear, meets, failed, train_of, failing, code_of, clause_choices, clause_entries, max_codes, cell_at, cell_by, cell_of, other_of, cell_from, clause_cell}
+use Rattle.clauses.specs.Clauses.{Clauses, count, literals_right, Clear, meets, failed, train_of, failing, code_of, clause_choices, clause_entries, max_codes, cell_at, cell_of, other_of, cell_from, clause_cell}
 use Rattle.clauses.proofs.Sums.{sum_only}
 
 -- ---- literals
@@ -60,6 +59,14 @@ right_literals : (n : ℕ) (z w : ℤ) → Right n z w → literals_right n z w 
 unfolding literals_right
 right_literals n z w r =
     rw (lt-ltb 0 (nat_abs z) r.some, le-leb (nat_abs z) n r.first, le-leb (nat_abs w) n r.second, ne_eqb (nat_abs z) (nat_abs w) r.apart)
+
+-- the two literals of a clause, where a clause of one has its first twice
+pub other_right : {n : ℕ} {z w : ℤ} → Right n z w → (1 ≤ nat_abs (other_of z w)) × (nat_abs (other_of z w) ≤ n)
+unfolding other_of
+other_right {n} {z} {w} r =
+    dite (ℕ_discrete (nat_abs w) 0)
+    (λ (e : nat_abs w ≡ 0). rw (eq-eqb (nat_abs w) 0 e) (r.some, r.first))
+    (λ m. rw (ne_eqb (nat_abs w) 0 m) (omega arith, r.second))
 
 -- clauses over n trains are clauses over more
 pub clear_wider : {n : ℕ} {cs : Clauses} (m : ℕ) → n ≤ m → Clear n cs → Clear m cs
@@ -137,17 +144,6 @@ module _ {n : ℕ} {cs : Clauses} (g : Clear n cs) (k : ℕ) (h : k < count cs) 
             small = t.small;
             fails = λ x h. ap (λ (b : Bool). not (meets x z) && b) (none_met x w e) ∙ and-true (not (meets x z)) ∙ sym (and_self (not (meets x z))) ∙ t.fails x h;
           }
-
--- ---- the cell by its parts, as the code has them
-
-module _ (f g : List ℤ) (k : ℕ) {s t a : ℕ} (p : s ≡ nat_abs (at f k)) (q : a ≡ failing (at f k)) (r : t ≡ nat_abs (at g k)) where
-  pub cell_alone : {o : ℕ} → t ≡ 0 → o ≡ cell_by (s - 1) a (s - 1) a → o ≡ cell_from f g k
-  unfolding cell_from cell_of other_of
-  cell_alone e h = rw (eq-eqb (nat_abs (at g k)) 0 (sym r ∙ e), ← p, ← q) h
-
-  pub cell_both : {c o : ℕ} → c ≡ failing (at g k) → (t ≡ 0 → ⊥) → o ≡ cell_by (s - 1) a (t - 1) c → o ≡ cell_from f g k
-  unfolding cell_from cell_of other_of
-  cell_both u e h = rw (ne_eqb (nat_abs (at g k)) 0 (λ d. e (r ∙ d)), ← p, ← q, ← r, ← u) h
 
 -- ---- the cells that a plan goes through: one for each code
 

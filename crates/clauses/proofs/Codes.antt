@@ -1,14 +1,13 @@
 -- The numbers that pass a test, in their order: each is one of them, they ascend, and a sum over the list is a sum over all numbers that counts those that pass. By one number more at a time.
 use mathlib.Core.Path.{◌≡◌, refl, ap, ap₂}
 use mathlib.Core.Bool.{Bool, true, false, cond}
-use mathlib.Core.List.{List, [], ◌∷◌, ◌++◌, append-nil}
+use mathlib.Core.List.{[], ◌∷◌, ◌++◌, append-nil}
 use mathlib.Core.Logic.{dite}
 use Prim.Native.Nat.{ℕ, zero, suc, ◌+◌, ◌<◌, ◌≤◌}
 use native.Mathlib.Decide.{dec_lt}
 use native.Mathlib.Numerals.{add-one}
 use native.Mathlib.Omega.{arith}
-use lib.ListN.{length, set, take}
-use lib.Seq.{take-suc-set}
+use lib.ListN.{length}
 use Rattle.theory.specs.Sum.{sum}
 use Rattle.theory.specs.Lists.{nth}
 use Rattle.clauses.specs.Clauses.{codes_below}
@@ -70,11 +69,15 @@ module _ (p : ℕ → Bool) (n : ℕ) where
   sum_more f true e before = rw (codes-one e, e) (omega (arith, snoc_sum (codes_below p n) n f))
 
 module _ (p : ℕ → Bool) where
-  -- a loop's next turn
-  codes_skip : (n : ℕ) → p n ≡ false → codes_below p (n + 1) ≡ codes_below p n
+  -- a loop's first and next turn
+  pub codes_begun : codes_below p 0 ≡ []
+  unfolding codes_below
+  codes_begun = refl
+
+  pub codes_skip : (n : ℕ) → p n ≡ false → codes_below p (n + 1) ≡ codes_below p n
   codes_skip n e = rw add-one (codes_none p n e)
 
-  codes_next : (n : ℕ) → p n ≡ true → codes_below p (n + 1) ≡ codes_below p n ++ (n ∷ [])
+  pub codes_next : (n : ℕ) → p n ≡ true → codes_below p (n + 1) ≡ codes_below p n ++ (n ∷ [])
   codes_next n e = rw add-one (codes-one p n e)
 
   -- there are no more than there are numbers
@@ -103,22 +106,3 @@ pub codes_cong : (p q : ℕ → Bool) (n : ℕ) → ((o : ℕ) → o < n → p o
 unfolding codes_below
 codes_cong p q zero e = refl
 codes_cong p q (suc n) e = ap₂ ◌++◌ (codes_cong p q n (λ o h. e o (omega arith))) (ap (λ (t : Bool). cond t (n ∷ []) []) (e n (omega arith)))
-
--- ---- a list in the front of its room
-
-module _ (p : ℕ → Bool) (l : List ℕ) where
-  -- the first m numbers of the room are those below n that pass
-  abbrev pub Listed : ℕ → ℕ → Type 0
-  Listed m n = (m ≡ length (codes_below p n)) × (take m l ≡ codes_below p n)
-
-  pub listed_none : Listed 0 0
-  unfolding codes_below
-  listed_none = (refl, refl)
-
-  pub listed_skip : (n : ℕ) {m : ℕ} → Listed m n → p n ≡ false → Listed m (n + 1)
-  listed_skip n w e = rw (codes_skip p n e) w
-
-  pub listed_next : (n : ℕ) {m : ℕ} → m < length l → Listed m n → p n ≡ true
-      → (m + 1 ≡ length (codes_below p (n + 1))) × (take (m + 1) (set l m n) ≡ codes_below p (n + 1))
-  listed_next n {m} h w e =
-      rw (codes_next p n e) (omega (arith, snoc_length (codes_below p n) n, w.0), rw (add-one, take-suc-set l m n h, w.1))

@@ -10,7 +10,7 @@ use Rattle.theory.specs.Sum.{sum}
 use Rattle.theory.specs.Range.{all}
 use Rattle.theory.specs.Lists.{list_from}
 use Rattle.refusals.specs.declared.Refusal.TheVariants.{CostAbove, PairsAbove}
-use Rattle.refusals.specs.declared.Verdict.TheVariants.{Fine, Declined}
+use Rattle.refusals.specs.Verdicts.{Fine, Declined}
 use Rattle.tables.specs.Numbers.{Numbers, numbers}
 use Rattle.clauses.specs.Clauses.{Clauses, clauses, literals_right, cell_of, other_of, cell_from, charged_to, unnamed_to, named, codes_below, pair_codes, clause_numbers, costs_within, sums_within}
 use Rattle.clauses.specs.Outcomes.{clauses_outcome}

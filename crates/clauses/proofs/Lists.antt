@@ -1,14 +1,18 @@
 -- Lists that grow by one number at their end, and lists that are mapped: what stands where.
 use mathlib.Core.Path.{◌≡◌, refl, sym, ap, ◌∙◌}
 use mathlib.Core.List.{List, [], ◌∷◌, ◌++◌, map}
+use mathlib.Core.Bool.{Bool, ◌&&◌}
 use Prim.Native.Nat.{ℕ, ◌+◌, ◌<◌}
+use native.Mathlib.Numerals.{add-one}
 use native.Mathlib.Omega.{arith}
-use lib.ListN.{length, get_or, length-append, length-map, get_or-append, get_or-map}
+use lib.ListN.{length, get_or, length-append, get_or-append, get_or-map}
 use lib.Seq.{get_or-append_seam}
+use Rattle.std.specs.List.{list_all}
+use Rattle.theory.specs.Range.{all}
+use Rattle.theory.proofs.Range.{all_cong, all_head}
 use Rattle.theory.specs.Sum.{sum}
-use Rattle.theory.specs.Lists.{list_of, nth}
+use Rattle.theory.specs.Lists.{nth}
 use Rattle.theory.proofs.Sum.{sum_cong, sum_more}
-use Rattle.theory.proofs.Lists.{list_is}
 
 -- ---- one number more at the end
 
@@ -39,6 +43,17 @@ module _ (l : List ℕ) (a : ℕ) where
 pub nth-map : (f : ℕ → ℕ) (l : List ℕ) (k : ℕ) → f 0 ≡ 0 → nth (map f l) k ≡ f (nth l k)
 nth-map f l k e = ap (get_or (map f l) k) (sym e) ∙ get_or-map f l k 0
 
--- a mapped list by its terms
-pub list_map : (f : ℕ → ℕ) (l : List ℕ) → f 0 ≡ 0 → list_of (length l) (λ k. f (nth l k)) ≡ map f l
-list_map f l e = list_is (length l) (λ k. f (nth l k)) (map f l) (length-map l f) (λ k h. sym (nth-map f l k e))
+-- ---- a test of every entry
+
+pub list_all_is : (test : ℕ → Bool) (l : List ℕ) → list_all test l ≡ all (length l) (λ k. test (nth l k))
+unfolding all
+list_all_is test [] = refl
+list_all_is test (x ∷ l) =
+    ap (λ (t : Bool). test x && t) (list_all_is test l ∙ all_cong (length l) _ _ (λ k h. ap (λ (j : ℕ). test (nth (x ∷ l) j)) (sym (add-one k))))
+    ∙ sym (all_head (λ k. test (nth (x ∷ l) k)) (length l))
+
+-- ---- a list that is mapped twice
+
+pub map_of_map : {A B C : Type 0} (f : B → C) (g : A → B) (l : List A) → map f (map g l) ≡ map (λ x. f (g x)) l
+map_of_map f g [] = refl
+map_of_map f g (x ∷ l) = ap (λ (m : List _). f (g x) ∷ m) (map_of_map f g l)

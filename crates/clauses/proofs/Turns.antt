@@ -1,5 +1,5 @@
 -- The turns of the loops of charges.rt: one clause more in a table changes the place of its cell, or of its code, and no other.
-use mathlib.Core.Path.{◌≡◌, refl, sym, ap, ◌∙◌}
+use mathlib.Core.Path.{◌≡◌, sym, ap, ◌∙◌}
 use mathlib.Core.Bool.{Bool, true, false, cond, not, ◌&&◌, and-true, and-false}
 use mathlib.Core.List.{List}
 use mathlib.Core.Logic.{dite}
@@ -8,7 +8,7 @@ use native.Mathlib.Decide.{ℕ_discrete}
 use native.Mathlib.Omega.{arith}
 use borrow.Author.Tests.{eq-eqb, ne_eqb}
 use lib.Dec.{eqb, ltb}
-use lib.ListN.{set, replicate, length-set, length-replicate, get_or-replicate}
+use lib.ListN.{set, get_or, replicate, length-set, length-replicate, get_or-replicate}
 use lib.Seq.{get_or-set_same, get_or-set_other}
 use Rattle.tables.specs.Block.{max_trains, max_cost}
 use Rattle.theory.specs.Lists.{nth}
@@ -21,11 +21,10 @@ use Rattle.clauses.proofs.Codes.{codes_cong}
 module _ (cs : Clauses) where
   -- ---- costs
 
-  pub charged_none : (cells : List ℕ) → cells ≡ replicate max_cells 0 → Charged cs 0 cells
+  pub charged_none : Charged cs 0 (replicate max_cells 0)
   unfolding charged_to
-  charged_none cells e =
-      rw e
-      (record { whole = length-replicate {A = ℕ} max_cells 0; costs = λ o h. get_or-replicate {A = ℕ} max_cells o 0 0 h ∙ sym (sum_none (λ k. cond (eqb (clause_cell cs k) o) (nth cs.weights k) 0)) })
+  charged_none =
+      record { whole = length-replicate {A = ℕ} max_cells 0; costs = λ o h. get_or-replicate {A = ℕ} max_cells o 0 0 h ∙ sym (sum_none (λ k. cond (eqb (clause_cell cs k) o) (nth cs.weights k) 0)) }
 
   cost_more : (k o : ℕ) → charged_to cs (k + 1) o ≡ charged_to cs k o + cond (eqb (clause_cell cs k) o) (nth cs.weights k) 0
   unfolding charged_to
@@ -53,32 +52,30 @@ module _ (cs : Clauses) where
 
   -- ---- marks
 
-  pub marked_none : (marks : List ℕ) → marks ≡ replicate max_codes 0 → Marked cs 0 marks
+  pub marked_none : Marked cs 0 (replicate max_codes false)
   unfolding unnamed_to
-  marked_none marks e =
-      rw e
-      (record { whole = length-replicate {A = ℕ} max_codes 0; holds = λ o h. get_or-replicate {A = ℕ} max_codes o 0 0 h ∙ sym (ap (λ (t : Bool). cond t 0 1) (all-zero (λ k. not (eqb (clause_cell cs k / clause_entries) o)))) })
+  marked_none =
+      record {
+        whole = length-replicate {A = Bool} max_codes false;
+        holds = λ o h. get_or-replicate {A = Bool} max_codes o false false h ∙ sym (ap not (all-zero (λ k. not (eqb (clause_cell cs k / clause_entries) o))));
+      }
 
   unnamed_more : (k o : ℕ) → unnamed_to cs (k + 1) o ≡ unnamed_to cs k o && not (eqb (clause_cell cs k / clause_entries) o)
   unfolding unnamed_to
   unnamed_more k o = all_next (λ j. not (eqb (clause_cell cs j / clause_entries) o)) k
 
-  pub marked_more : (k : ℕ) (marks : List ℕ) {o : ℕ} → Marked cs k marks → o ≡ clause_cell cs k → o < max_cells → Marked cs (k + 1) (set marks (o / clause_entries) 1)
-  marked_more k marks {o} g e h = record { whole = length-set marks (o / clause_entries) 1 ∙ g.whole; holds = at_code }
+  pub marked_more : (k : ℕ) (marks : List Bool) {o : ℕ} → Marked cs k marks → o ≡ clause_cell cs k → o < max_cells → Marked cs (k + 1) (set marks (o / clause_entries) true)
+  marked_more k marks {o} g e h = record { whole = length-set marks (o / clause_entries) true ∙ g.whole; holds = at_code }
     where
-      at_code : (p : ℕ) → p < max_codes → nth (set marks (o / clause_entries) 1) p ≡ cond (unnamed_to cs (k + 1) p) 0 1
+      at_code : (p : ℕ) → p < max_codes → get_or (set marks (o / clause_entries) true) p false ≡ not (unnamed_to cs (k + 1) p)
       at_code p q =
           dite (ℕ_discrete p (o / clause_entries))
-          (λ (d : p ≡ o / clause_entries). rw (d, get_or-set_same marks (o / clause_entries) 1 0 (omega (arith, g.whole)), unnamed_more k (o / clause_entries), eq-eqb (clause_cell cs k / clause_entries) (o / clause_entries) (ap (λ (c : ℕ). c / clause_entries) (sym e)), and-false (unnamed_to cs k (o / clause_entries))))
-          (λ n. rw (get_or-set_other marks (o / clause_entries) p 1 0 n, unnamed_more k p, ne_eqb (clause_cell cs k / clause_entries) p (λ d. n (sym d ∙ ap (λ (c : ℕ). c / clause_entries) (sym e))), and-true (unnamed_to cs k p)) (g.holds p q))
+          (λ (d : p ≡ o / clause_entries). rw (d, get_or-set_same marks (o / clause_entries) true false (omega (arith, g.whole)), unnamed_more k (o / clause_entries), eq-eqb (clause_cell cs k / clause_entries) (o / clause_entries) (ap (λ (c : ℕ). c / clause_entries) (sym e)), and-false (unnamed_to cs k (o / clause_entries))))
+          (λ n. rw (get_or-set_other marks (o / clause_entries) p true false n, unnamed_more k p, ne_eqb (clause_cell cs k / clause_entries) p (λ d. n (sym d ∙ ap (λ (c : ℕ). c / clause_entries) (sym e))), and-true (unnamed_to cs k p)) (g.holds p q))
 
   -- marked pairs are those that are named
-  pub marked_codes : (marks : List ℕ) → Marked cs (count cs) marks → codes_below (marked_pair marks) max_codes ≡ pair_codes cs
+  pub marked_codes : (marks : List Bool) → Marked cs (count cs) marks → codes_below (marked_pair marks) max_codes ≡ pair_codes cs
   unfolding pair_codes named
   marked_codes marks g =
       codes_cong (marked_pair marks) (named cs) max_codes
-      (λ o h. ap (λ (t : Bool). ltb (o / max_trains) (o % max_trains) && t) (ap (λ (v : ℕ). not (eqb v 0)) (g.holds o h) ∙ by (unnamed_to cs (count cs) o)))
-    where
-      by : (t : Bool) → not (eqb (cond t 0 1) 0) ≡ not t
-      by true = refl
-      by false = refl
+      (λ o h. ap (λ (t : Bool). ltb (o / max_trains) (o % max_trains) && t) (g.holds o h))

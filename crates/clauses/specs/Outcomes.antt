@@ -1,8 +1,7 @@
 -- What a study written as clauses answers, and the block that it leaves. '20, over 48 pairs, after 5 and before 10.'
 use Rattle.std.specs.Prelude.{not, List, ℕ, ℤ}
 use Rattle.refusals.specs.declared.Refusal.TheVariants.{CostAbove, PairsAbove}
-use Rattle.refusals.specs.declared.Verdict.{Verdict}
-use Rattle.refusals.specs.Verdicts.{then, unless, settled}
+use Rattle.refusals.specs.Verdicts.{Verdict, then, unless, settled}
 use Rattle.tables.specs.Numbers.{Numbers}
 use Rattle.operations.specs.Load.{loaded_block}
 use Rattle.clauses.specs.Clauses.{Clauses, pairs_above, clause_numbers, sums_within}

@@ -1,83 +1,54 @@
 // Document 02, change 7: what the clauses charge, and the pairs that they name.
-ghost use Rattle.std.specs.Prelude.{◌≡◌, ◌+◌, ◌<◌, length, replicate, take};
+ghost use Rattle.std.specs.Prelude.{◌≡◌, length};
 ghost use Rattle.tables.specs.Block.{max_trains};
-ghost use Rattle.clauses.specs.Clauses.{clauses, Clear, max_codes, max_cells, codes_below, pair_codes};
-ghost use Rattle.clauses.specs.Charges.{Charged, Marked, marked_pair};
+ghost use Rattle.clauses.specs.Given.{clauses_given};
+ghost use Rattle.clauses.specs.Clauses.{Clear, pair_codes};
+ghost use Rattle.clauses.specs.Charges.{Charged, Marked};
 
+use crate::clause::Clause;
 use crate::literals;
-use crate::literals::{CODES, ENTRIES};
+use crate::literals::{CELLS, CODES, ENTRIES};
+use arrayvec::ArrayVec;
 use tables::block::Block;
 
+// The costs of all cells.
+pub type Cells = [u64; CELLS];
+
 // Adds each weight to the cell of its clause.
-pub fn charge(cells: &mut [u64], firsts: &[i64], seconds: &[i64], weights: &[u64])
-    requires { (cells.old ≡ replicate max_cells 0) × (Clear max_trains (clauses firsts.now seconds.now weights.now)) }
-    ensures { Charged (clauses firsts.now seconds.now weights.now) (length weights.now) cells.new }
+pub fn charge(clauses: &[Clause]) -> Cells
+    requires { Clear max_trains (clauses_given clauses.now) }
+    ensures { Charged (clauses_given clauses.now) (length clauses.now) result }
 {
-    let mut k = 0;
-    while k < weights.len() {
-        let o = literals::clause_cell(firsts, seconds, k);
-        cells[o] = cells[o] + weights[k];
-        k += 1;
+    let mut cells = [0; CELLS];
+    for clause in clauses {
+        cells[literals::clause_cell(*clause)] += clause.weight;
     }
+    cells
 }
 
 // Marks the code of each clause.
-fn mark(marks: &mut [u64], firsts: &[i64], seconds: &[i64], weights: &[u64])
-    requires { (marks.old ≡ replicate max_codes 0) × (Clear max_trains (clauses firsts.now seconds.now weights.now)) }
-    ensures { Marked (clauses firsts.now seconds.now weights.now) (length weights.now) marks.new }
+fn mark(clauses: &[Clause]) -> [bool; CODES]
+    requires { Clear max_trains (clauses_given clauses.now) }
+    ensures { Marked (clauses_given clauses.now) (length clauses.now) result }
 {
-    let mut k = 0;
-    while k < weights.len() {
-        let o = literals::clause_cell(firsts, seconds, k);
-        marks[o / ENTRIES] = 1;
-        k += 1;
+    let mut marks = [false; CODES];
+    for clause in clauses {
+        marks[literals::clause_cell(*clause) / ENTRIES] = true;
     }
+    marks
 }
 
-// Whether code o is marked, and of two trains.
-fn is_pair(marks: &[u64], o: usize) -> bool
-    requires { o < length marks.now }
-    ensures { result ≡ marked_pair marks.now o }
+// The codes of the pairs that clauses name, ascending.
+pub fn name_pairs(clauses: &[Clause]) -> ArrayVec<usize, CODES>
+    requires { Clear max_trains (clauses_given clauses.now) }
+    ensures { result.items ≡ pair_codes (clauses_given clauses.now) }
 {
-    if o / Block::TRAINS < o % Block::TRAINS {
-        return marks[o] != 0;
+    let marks = mark(clauses);
+    let mut codes = ArrayVec::new();
+    for o in 0..CODES {
+        if o / Block::TRAINS < o % Block::TRAINS && marks[o] {
+            codes.push(o);
+        }
     }
-    false
-}
-
-// Lists code o after m others, if it is a pair's: how many are listed then.
-fn list_code(codes: &mut [u64], marks: &[u64], m: usize, o: usize) -> usize
-    requires o_in_bounds { (o < length marks.now) × (m < length codes.old) }
-    requires m_value { (m ≡ length (codes_below (marked_pair marks.now) o)) × (take m codes.old ≡ codes_below (marked_pair marks.now) o) }
-    ensures { (result ≡ length (codes_below (marked_pair marks.now) (o + 1))) × (take result codes.new ≡ codes_below (marked_pair marks.now) (o + 1)) }
-{
-    if !is_pair(marks, o) {
-        return m;
-    }
-    codes[m] = o as u64;
-    m + 1
-}
-
-// Lists the marked pairs' codes, ascending: how many there are.
-fn list_codes(codes: &mut [u64], marks: &[u64]) -> usize
-    requires { (length codes.old ≡ max_codes) × (length marks.now ≡ max_codes) }
-    ensures { (result ≡ length (codes_below (marked_pair marks.now) max_codes)) × (take result codes.new ≡ codes_below (marked_pair marks.now) max_codes) }
-{
-    let mut m = 0;
-    let mut o = 0;
-    while o < marks.len() {
-        m = list_code(codes, marks, m, o);
-        o += 1;
-    }
-    m
-}
-
-// Lists the codes of the pairs that clauses name, ascending: how many there are.
-pub fn name_pairs(codes: &mut [u64], firsts: &[i64], seconds: &[i64], weights: &[u64]) -> usize
-    requires { (length codes.old ≡ max_codes) × (Clear max_trains (clauses firsts.now seconds.now weights.now)) }
-    ensures { (result ≡ length (pair_codes (clauses firsts.now seconds.now weights.now))) × (take result codes.new ≡ pair_codes (clauses firsts.now seconds.now weights.now)) }
-{
-    let mut marks = [0u64; CODES];
-    mark(&mut marks, firsts, seconds, weights);
-    list_codes(codes, &marks)
+    codes
 }

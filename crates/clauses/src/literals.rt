@@ -1,8 +1,9 @@
 // Document 02, change 7: the literals of a clause, and the cell that it is charged to.
-ghost use Rattle.std.specs.Prelude.{◌≡◌, true, ◌<◌, ◌≤◌, pos, nat_abs, length};
-ghost use Rattle.tables.specs.Block.{max_trains, at};
-ghost use Rattle.clauses.specs.Clauses.{clause_choices, failing, cell_by, cell_from, literals_right, max_cells};
+ghost use Rattle.std.specs.Prelude.{◌≡◌, true, ◌<◌, ◌≤◌, pos, nat_abs};
+ghost use Rattle.tables.specs.Block.{max_trains};
+ghost use Rattle.clauses.specs.Clauses.{clause_choices, train_of, failing, cell_at, cell_by, cell_of, other_of, literals_right, max_cells};
 
+use crate::clause::Clause;
 use tables::block::Block;
 
 // How many choices every train has.
@@ -15,67 +16,67 @@ pub const CODES: usize = Block::TRAINS * Block::TRAINS;
 pub const CELLS: usize = ENTRIES * CODES;
 
 // Whether 19 leaves two literals that are so far from 0, over n trains: signs have no say.
+#[tactic(auto, unfolding(crate::specs::Clauses::literals_right))]
 pub fn right(n: usize, first: usize, second: usize) -> bool
     ensures { result ≡ literals_right n (pos first) (pos second) }
 {
-    if first == 0 {
-        return false;
-    }
-    if n < first {
-        return false;
-    }
-    if n < second {
-        return false;
-    }
-    first != second
+    0 < first && first <= n && second <= n && first != second
 }
 
-// How far the literal at place k is from 0: one above its train.
-fn size(b: &[i64], k: usize) -> usize
-    requires { (k < length b.now) × (nat_abs (at b.now k) ≤ max_trains) }
-    ensures { result ≡ nat_abs (at b.now k) }
+// The second literal of a clause. A clause of one has its first literal twice.
+#[tactic(auto, unfolding(crate::specs::Clauses::other_of))]
+fn other(clause: Clause) -> i64
+    ensures { result ≡ other_of clause.first clause.second }
 {
-    let z = b[k];
-    if z < 0 {
-        return (0 - z) as usize;
+    if clause.second == 0 {
+        return clause.first;
     }
-    z as usize
+    clause.second
 }
 
-// The choice with which a plan fails the literal at place k.
-fn fails(b: &[i64], k: usize) -> usize
-    requires { (k < length b.now) × (nat_abs (at b.now k) ≤ max_trains) }
-    ensures { result ≡ failing (at b.now k) }
+// The train of a literal.
+fn train(literal: i64) -> usize
+    requires { (1 ≤ nat_abs literal) × (nat_abs literal ≤ max_trains) }
+    ensures { result ≡ train_of literal }
 {
-    let z = b[k];
-    if z < 0 {
-        return 0;
-    }
-    1
+    literal.unsigned_abs() as usize - 1
+}
+
+// The choice with which a plan fails a literal.
+fn failing(literal: i64) -> usize
+    ensures { result ≡ failing literal }
+{
+    usize::from(0 <= literal)
+}
+
+// The cell of choice a of train i with choice c of train j, where j does not come before i.
+pub fn cell_at(i: usize, a: usize, j: usize, c: usize) -> usize
+    requires { (i < max_trains) × (a < clause_choices) × (j < max_trains) × (c < clause_choices) }
+    ensures value { result ≡ cell_at i a j c }
+    ensures bound { result < max_cells }
+{
+    ENTRIES * (Block::TRAINS * i + j) + (CHOICES * a + c)
 }
 
 // The cell of choice a of train i with choice c of train j.
 fn cell(i: usize, a: usize, j: usize, c: usize) -> usize
     requires { (i < max_trains) × (a < clause_choices) × (j < max_trains) × (c < clause_choices) }
-    ensures { (result ≡ cell_by i a j c) × (result < max_cells) }
+    ensures value { result ≡ cell_by i a j c }
+    ensures bound { result < max_cells }
 {
     if j < i {
-        return ENTRIES * (Block::TRAINS * j + i) + (CHOICES * c + a);
+        return cell_at(j, c, i, a);
     }
-    ENTRIES * (Block::TRAINS * i + j) + (CHOICES * a + c)
+    cell_at(i, a, j, c)
 }
 
-// The one cell that clause k is charged to. A clause of one has its literal twice.
-pub fn clause_cell(firsts: &[i64], seconds: &[i64], k: usize) -> usize
-    requires { (k < length firsts.now) × (k < length seconds.now) × (literals_right max_trains (at firsts.now k) (at seconds.now k) ≡ true) }
-    ensures { (result ≡ cell_from firsts.now seconds.now k) × (result < max_cells) }
+// The one cell that a clause is charged to.
+pub fn clause_cell(clause: Clause) -> usize
+    requires { literals_right max_trains clause.first clause.second ≡ true }
+    ensures value { result ≡ cell_of clause.first (other_of clause.first clause.second) }
+    ensures bound { result < max_cells }
 {
-    let i = size(firsts, k) - 1;
-    let a = fails(firsts, k);
-    let s = size(seconds, k);
-    if s == 0 {
-        return cell(i, a, i, a);
-    }
-    let c = fails(seconds, k);
-    cell(i, a, s - 1, c)
+    let first = clause.first;
+    let second = other(clause);
+    cell(train(first), failing(first), train(second), failing(second))
 }

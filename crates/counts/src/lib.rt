@@ -3,100 +3,96 @@
 
 ghost use Rattle.std.specs.Prelude.{◌≡◌, ◌<◌, ◌≤◌};
 ghost use Rattle.tables.specs.Block.{trains, pairs};
-ghost use Rattle.tables.specs.WellFormed.{Study};
 ghost use Rattle.tables.specs.Plans.{shape_of};
 ghost use Rattle.tables.specs.Counts.{rows_of, columns_of, pair_entries, pair_moves, choices_before, choice_count, entry_count, move_count, weight_count};
 
 use tables::block;
+use tables::held_study::HeldStudy;
 
 // How many rows pair k has: the choices of its first train.
-pub fn rows_of(b: &[i64], k: usize) -> usize
-    requires { (Study b.now) × (k < pairs b.now) }
-    ensures { result ≡ rows_of (shape_of b.now) k }
+#[tactic(auto, using(tables::proofs::Study::shape_ranges))]
+pub fn rows_of(study: HeldStudy<'_>, k: usize) -> usize
+    requires { k < pairs study.numbers.now }
+    ensures { result ≡ rows_of (shape_of study.entry.numbers.now) k }
 {
-    block::size(b, block::first(b, k))
+    block::size(study.numbers, block::first(study.numbers, k))
 }
 
 // How many columns pair k has: the choices of its second train.
-pub fn columns_of(b: &[i64], k: usize) -> usize
-    requires { (Study b.now) × (k < pairs b.now) }
-    ensures { result ≡ columns_of (shape_of b.now) k }
+#[tactic(auto, using(tables::proofs::Study::shape_ranges))]
+pub fn columns_of(study: HeldStudy<'_>, k: usize) -> usize
+    requires { k < pairs study.numbers.now }
+    ensures { result ≡ columns_of (shape_of study.entry.numbers.now) k }
 {
-    block::size(b, block::second(b, k))
+    block::size(study.numbers, block::second(study.numbers, k))
 }
 
 // How many entries pair k has.
-pub fn pair_entries(b: &[i64], k: usize) -> usize
-    requires { (Study b.now) × (k < pairs b.now) }
-    ensures { result ≡ pair_entries (shape_of b.now) k }
+#[tactic(auto, using(tables::proofs::Counting::counting))]
+pub fn pair_entries(study: HeldStudy<'_>, k: usize) -> usize
+    requires { k < pairs study.numbers.now }
+    ensures { result ≡ pair_entries (shape_of study.entry.numbers.now) k }
 {
-    rows_of(b, k) * columns_of(b, k)
+    rows_of(study, k) * columns_of(study, k)
 }
 
 // How many moves pair k has.
-fn pair_moves(b: &[i64], k: usize) -> usize
-    requires { (Study b.now) × (k < pairs b.now) }
-    ensures { result ≡ pair_moves (shape_of b.now) k }
+#[tactic(auto, using(tables::proofs::Counting::counting))]
+fn pair_moves(study: HeldStudy<'_>, k: usize) -> usize
+    requires { k < pairs study.numbers.now }
+    ensures { result ≡ pair_moves (shape_of study.entry.numbers.now) k }
 {
-    rows_of(b, k) + columns_of(b, k)
+    rows_of(study, k) + columns_of(study, k)
 }
 
 // How many choices the first i trains have.
-pub fn choices_before(b: &[i64], i: usize) -> usize
-    requires { (Study b.now) × (i ≤ trains b.now) }
-    ensures { result ≡ choices_before (shape_of b.now) i }
+#[tactic(auto, using(tables::proofs::Counting::counting))]
+pub fn choices_before(study: HeldStudy<'_>, i: usize) -> usize
+    requires { i ≤ trains study.numbers.now }
+    ensures { result ≡ choices_before (shape_of study.entry.numbers.now) i }
 {
     let mut count = 0;
-    let mut j = 0;
-    while j < i {
-        count += block::size(b, j);
-        j += 1;
+    for j in 0..i {
+        count += block::size(study.numbers, j);
     }
     count
 }
 
 // How many choices the trains have.
-pub fn choice_count(b: &[i64]) -> usize
-    requires { Study b.now }
-    ensures { result ≡ choice_count (shape_of b.now) }
+pub fn choice_count(study: HeldStudy<'_>) -> usize
+    ensures { result ≡ choice_count (shape_of study.entry.numbers.now) }
 {
-    choices_before(b, block::trains(b))
+    choices_before(study, block::trains(study.numbers))
 }
 
 // How many entries the pairs have.
-pub fn entry_count(b: &[i64]) -> usize
-    requires { Study b.now }
-    ensures { result ≡ entry_count (shape_of b.now) }
+#[tactic(auto, using(tables::proofs::Counting::counting))]
+pub fn entry_count(study: HeldStudy<'_>) -> usize
+    ensures { result ≡ entry_count (shape_of study.entry.numbers.now) }
 {
-    let m = block::pairs(b);
     let mut count = 0;
-    let mut k = 0;
-    while k < m {
-        count += pair_entries(b, k);
-        k += 1;
+    for k in 0..block::pairs(study.numbers) {
+        count += pair_entries(study, k);
     }
     count
 }
 
 // How many moves a shift has for the pairs.
-pub fn move_count(b: &[i64]) -> usize
-    requires { Study b.now }
-    ensures { result ≡ move_count (shape_of b.now) }
+#[tactic(auto, using(tables::proofs::Counting::counting))]
+pub fn move_count(study: HeldStudy<'_>) -> usize
+    ensures { result ≡ move_count (shape_of study.entry.numbers.now) }
 {
-    let m = block::pairs(b);
     let mut count = 0;
-    let mut k = 0;
-    while k < m {
-        count += pair_moves(b, k);
-        k += 1;
+    for k in 0..block::pairs(study.numbers) {
+        count += pair_moves(study, k);
     }
     count
 }
 
 // How many weights a certificate has.
-pub fn weight_count(b: &[i64]) -> usize
-    requires { Study b.now }
-    ensures { result ≡ weight_count (shape_of b.now) }
+#[tactic(auto, using(tables::proofs::Counting::counting))]
+pub fn weight_count(study: HeldStudy<'_>) -> usize
+    ensures { result ≡ weight_count (shape_of study.entry.numbers.now) }
 {
-    choice_count(b) + entry_count(b)
+    choice_count(study) + entry_count(study)
 }

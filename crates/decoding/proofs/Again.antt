@@ -12,7 +12,7 @@ use lib.Seq.{get_or-append-add, drop-length}
 use Rattle.theory.specs.Lists.{nth}
 use Rattle.theory.proofs.Range.{below_suc}
 use Rattle.theory.proofs.Lists.{list_length, list_nth}
-use Rattle.refusals.specs.declared.Verdict.TheVariants.{Fine}
+use Rattle.refusals.specs.Verdicts.{Fine}
 use Rattle.frames.specs.Digits.{bytes}
 use Rattle.frames.specs.Fields.{field, field_digits}
 use Rattle.frames.specs.Runs.{run_digits}

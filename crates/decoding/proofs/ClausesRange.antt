@@ -5,7 +5,7 @@ use Prim.Native.Nat.{ℕ, ◌<◌}
 use native.Mathlib.Omega.{arith}
 use lib.IntN.{pos}
 use Rattle.theory.proofs.Lists.{list_length, list_nth}
-use Rattle.refusals.specs.declared.Verdict.TheVariants.{Fine}
+use Rattle.refusals.specs.Verdicts.{Fine}
 use Rattle.clauses.specs.Clauses.{InLimits}
 use Rattle.lines.specs.Layout.{load_trains, load_scale, clause_count, clause_first, clause_second, clause_weight}
 use Rattle.kinds.specs.Clauses.{clauses_verdict}

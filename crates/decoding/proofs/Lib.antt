@@ -1,5 +1,6 @@
 -- The laws of the crate, which callers cite: one file for each idea.
 pub mod Entries
+pub mod Pushed
 pub mod LoadRange
 pub mod ClausesRange
 pub mod Again

@@ -14,7 +14,7 @@ use borrow.Author.Tests.{ne_eqb}
 use Rattle.theory.specs.Lists.{list_of, nth}
 use Rattle.theory.proofs.Sum.{sum_none, sum_more, sum_cong}
 use Rattle.theory.proofs.Lists.{list_length, list_nth, list_past}
-use Rattle.refusals.specs.declared.Verdict.TheVariants.{Fine}
+use Rattle.refusals.specs.Verdicts.{Fine}
 use Rattle.tables.specs.Counts.{entries_before}
 use Rattle.tables.specs.Numbers.{InRange, is_cost, list_shape}
 use Rattle.tables.specs.WellFormed.{before}

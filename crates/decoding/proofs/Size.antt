@@ -90,7 +90,7 @@ module _ {x : Numbers} (r : InRange x) where
   choices_most : length x.choices ≤ max_trains * max_choices
   choices_most = omega (arith, r.choices, sum_most (length x.sizes) max_choices (nth x.sizes) (λ i h. (r.sizes i h).1), r.trains.1)
 
-  entries_most : length x.entries ≤ max_pairs * entries_of_pair
+  pub entries_most : length x.entries ≤ max_pairs * entries_of_pair
   entries_most = omega (arith, r.entries, sum_most (length x.firsts) entries_of_pair (entries_at x) each, r.pairs.0)
     where
       each : (k : ℕ) → k < length x.firsts → entries_at x k ≤ entries_of_pair

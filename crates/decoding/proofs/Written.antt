@@ -15,7 +15,7 @@ use borrow.Author.Tests.{lt-ltb, le-leb, eq-eqb, ne_eqb}
 use Rattle.theory.specs.Lists.{list_of, nth}
 use Rattle.theory.proofs.Lists.{list_is, list_part}
 use Rattle.theory.proofs.Sum.{sum_cong, sum_none, sum_more, sum_part}
-use Rattle.refusals.specs.declared.Verdict.TheVariants.{Fine}
+use Rattle.refusals.specs.Verdicts.{Fine}
 use Rattle.refusals.proofs.Verdicts.{then_both, first-all}
 use Rattle.tables.specs.Counts.{entries_before}
 use Rattle.tables.specs.Numbers.{Numbers, numbers, is_cost, numbers_shape, InRange}

@@ -1,105 +1,100 @@
-// The pairs of a load and the clauses of a study, written into lent slices: what a caller stores.
+// The numbers of a load and the clauses of a study, read off an accepted line: what a caller stores.
 #![tactic(auto)]
 
-ghost use Rattle.std.specs.Prelude.{◌≡◌, true, ◌+◌, ◌*◌, ◌<◌, ◌≤◌, length, set};
-ghost use Rattle.std.proofs.Math.Seq.{paste};
-ghost use Rattle.theory.specs.Lists.{list_of};
-ghost use Rattle.refusals.specs.declared.Verdict.TheVariants.{Fine};
-ghost use Rattle.frames.specs.Frames.{max_characters, framed, Framed};
-ghost use Rattle.lines.specs.Layout.{number_in, signed_in, end_of, further, numbers_in, first_field, second_field, entry_field, load_trains, load_pairs, load_first, load_second, entry_count, pair_at, literal_field, clause_count};
-ghost use Rattle.kinds.specs.Load.{Sized, load_verdict};
+ghost use Rattle.std.specs.Prelude.{◌≡◌, ◌+◌, ◌<◌, ◌≤◌};
+ghost use Rattle.refusals.specs.Verdicts.{Fine};
+ghost use Rattle.tables.specs.LineLimits.{max_clauses};
+ghost use Rattle.frames.specs.Digits.{bytes};
+ghost use Rattle.operations.specs.Given.{numbers_given};
+ghost use Rattle.clauses.specs.Given.{clauses_given};
+ghost use Rattle.lines.specs.declared.request.Request.TheVariants as request;
+ghost use Rattle.lines.specs.Layout.{signed_in, end_of, literal_field, clause_at, clause_first, clause_second, clause_weight};
+ghost use Rattle.kinds.specs.Load.{load_verdict, load_request};
 ghost use Rattle.kinds.specs.Clauses.{clauses_verdict};
-ghost use Rattle.decoding.specs.Numbers.{entries_of};
+ghost use Rattle.decoding.specs.Numbers.{numbers_of};
 ghost use Rattle.decoding.specs.Clauses.{clauses_of};
 
+use arrayvec::ArrayVec;
+use clauses::clause::Clause;
+use frames::frame::Frame;
 use frames::{fields, runs};
+use kinds::sized_load::SizedLoad;
 use kinds::{clause_fields, load};
+use lines::field::Field;
 use lines::request::{Clauses, Load};
+use operations::load_numbers::LoadNumbers;
 
-// The pair at byte `at`: its trains into place k, its costs into the places from `from` on. The answer is how many costs there are.
-fn decode_pair(
-    line: &[u8],
-    bytes: usize,
-    at: usize,
-    k: usize,
-    from: usize,
-    firsts: &mut [u64],
-    seconds: &mut [u64],
-    entries: &mut [u64],
-) -> usize
-    requires framed { Framed line.now bytes × Sized line.now × ((further (entry_field at) (entry_count line.now at)).at ≤ bytes) }
-    requires at_bound { (number_in line.now (first_field at) < load_trains line.now) × (number_in line.now (second_field at) < load_trains line.now) }
-    requires k_in_bounds { (k < length firsts.old) × (k < length seconds.old) × (from + entry_count line.now at ≤ length entries.old) }
-    ensures value { result ≡ entry_count line.now at }
-    ensures firsts_after { firsts.new ≡ set firsts.old k (number_in line.now (first_field at)) }
-    ensures seconds_after { seconds.new ≡ set seconds.old k (number_in line.now (second_field at)) }
-    ensures entries_after { entries.new ≡ paste entries.old from (numbers_in line.now (entry_field at) (entry_count line.now at)) (entry_count line.now at) }
+// The numbers of an accepted load.
+pub fn decode_load(frame: Frame<'_>, q: Load) -> LoadNumbers
+    requires { (load_verdict frame.line.now ≡ Fine) × (request.Load q ≡ load_request frame.line.now) }
+    ensures { numbers_given result ≡ numbers_of frame.entry.line.now }
 {
-    firsts[k] = load::first_train(line, at) as u64;
-    seconds[k] = load::second_train(line, at) as u64;
-    let count = load::entry_count(line, bytes, at);
-    runs::decode_at(
+    let line = frame.line;
+    let mut numbers = LoadNumbers::new(q.scale);
+    runs::decode(
         line,
-        at + Load::PAIR_WIDTH,
-        Load::COST_WIDTH,
-        entries,
-        from,
-        count,
+        q.sizes.at,
+        Field::COUNT_WIDTH,
+        q.sizes.count,
+        &mut numbers.sizes,
     );
-    count
-}
-
-// The pairs of an accepted load, from byte `start` on: their trains, and their costs one pair after the other.
-pub fn decode_pairs(
-    line: &[u8],
-    start: usize,
-    firsts: &mut [u64],
-    seconds: &mut [u64],
-    entries: &mut [u64],
-)
-    requires line_value { (framed line.now ≡ true) × (length line.now ≤ max_characters) × (load_verdict line.now ≡ Fine) × (start ≡ pair_at line.now 0) }
-    requires firsts_len { (length firsts.old ≡ load_pairs line.now) × (length seconds.old ≡ load_pairs line.now) × (length entries.old ≡ length (entries_of line.now (load_pairs line.now))) }
-    ensures firsts_after { firsts.new ≡ list_of (load_pairs line.now) (load_first line.now) }
-    ensures seconds_after { seconds.new ≡ list_of (load_pairs line.now) (load_second line.now) }
-    ensures entries_after { entries.new ≡ entries_of line.now (load_pairs line.now) }
-{
-    let bytes = line.len() / 2;
-    let m = firsts.len();
-    let mut at = start;
-    let mut from = 0;
-    let mut k = 0;
-    while k < m {
-        let count = decode_pair(line, bytes, at, k, from, firsts, seconds, entries);
+    runs::decode(
+        line,
+        q.choices.at,
+        Load::COST_WIDTH,
+        q.choices.count,
+        &mut numbers.choices,
+    );
+    let sized = SizedLoad { frame };
+    let mut at = q.pairs.at;
+    for _k in 0..q.pairs.count {
+        let count = load::entry_count(sized, at);
+        numbers.pairs.push(load::trains_of(frame, at));
+        runs::decode(
+            line,
+            at + Load::PAIR_WIDTH,
+            Load::COST_WIDTH,
+            count,
+            &mut numbers.entries,
+        );
         at = load::pair_end(at, count);
-        from += count;
-        k += 1;
     }
+    numbers
 }
 
 // The literal at byte `at`.
-fn literal(line: &[u8], at: usize) -> i64
-    requires { (framed line.now ≡ true) × (2 * end_of (literal_field at) ≤ length line.now) }
-    ensures { result ≡ signed_in line.now (literal_field at) }
+#[tactic(auto, using(frames::proofs::Widths::field_below, frames::proofs::Bytes::framed_whole))]
+fn literal(frame: Frame<'_>, at: usize) -> i64
+    requires { end_of (literal_field at) ≤ bytes frame.line.now }
+    ensures { result ≡ signed_in frame.entry.line.now (literal_field at) }
 {
-    let byte = fields::field(line, at, Clauses::LITERAL_WIDTH);
+    let byte = fields::field(frame.line, at, Clauses::LITERAL_WIDTH);
     fields::signed(Clauses::LITERAL_WIDTH, byte)
 }
 
-// The clauses of an accepted line: of each its two literals and its weight.
-pub fn decode_clauses(line: &[u8], firsts: &mut [i64], seconds: &mut [i64], weights: &mut [u64])
-    requires line_value { (framed line.now ≡ true) × (clauses_verdict line.now ≡ Fine) }
-    requires firsts_len { (length firsts.old ≡ clause_count line.now) × (length seconds.old ≡ clause_count line.now) × (length weights.old ≡ clause_count line.now) }
-    ensures firsts_after { firsts.new ≡ (clauses_of line.now).firsts }
-    ensures seconds_after { seconds.new ≡ (clauses_of line.now).seconds }
-    ensures weights_after { weights.new ≡ (clauses_of line.now).weights }
+// Clause k: its two literals and its weight.
+fn clause(frame: Frame<'_>, k: usize) -> Clause
+    requires { (k < max_clauses) × (clause_at (k + 1) ≤ bytes frame.line.now) }
+    ensures first { result.first ≡ clause_first frame.entry.line.now k }
+    ensures second { result.second ≡ clause_second frame.entry.line.now k }
+    ensures weight { result.weight ≡ clause_weight frame.entry.line.now k }
 {
-    let count = weights.len();
-    let mut k = 0;
-    while k < count {
-        let at = clause_fields::clause_at(k);
-        firsts[k] = literal(line, at);
-        seconds[k] = literal(line, at + Clauses::LITERAL_WIDTH);
-        weights[k] = clause_fields::weight_field(k).number_in(line);
-        k += 1;
+    let at = clause_fields::clause_at(k);
+    Clause {
+        first: literal(frame, at),
+        second: literal(frame, at + Clauses::LITERAL_WIDTH),
+        weight: clause_fields::weight_field(k).number_in(frame.line),
     }
+}
+
+// The clauses of an accepted line.
+pub fn decode_clauses(frame: Frame<'_>) -> ArrayVec<Clause, { Clauses::MOST }>
+    requires { clauses_verdict frame.line.now ≡ Fine }
+    ensures { clauses_given result.items ≡ clauses_of frame.entry.line.now }
+{
+    let mut clauses = ArrayVec::new();
+    for k in 0..clause_fields::COUNT.number_in(frame.line) as usize {
+        clauses.push(clause(frame, k));
+    }
+    clauses
 }

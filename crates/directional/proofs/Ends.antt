@@ -11,12 +11,12 @@ use lib.IntN.{ℤ}
 use Rattle.theory.specs.Fold.{down}
 use Rattle.theory.proofs.Fold.{down-more, down-ind}
 use Rattle.refusals.specs.declared.Refusal.TheVariants.{PartsOutside}
-use Rattle.refusals.specs.declared.Verdict.TheVariants.{Fine, Declined}
+use Rattle.refusals.specs.Verdicts.{Fine, Declined}
 use Rattle.tables.specs.Block.{max_parts, constant_place, trains, constant, second}
 use Rattle.tables.specs.Plans.{IsPlan, Open, shape_of, held_costs, held_total, Branches, LeastOf}
 use Rattle.tables.specs.WellFormed.{holds_study, Study}
 use Rattle.tables.proofs.Limits.{natural_open}
-use Rattle.tables.proofs.Study.{same_figure, first-below-second, second-below-trains}
+use Rattle.tables.proofs.Study.{same_figure, same_trains, first-below-second, second-below-trains}
 use Rattle.tables.proofs.Plans.{study_shaped}
 use Rattle.rewriting.specs.Judged.{kept}
 use Rattle.rewriting.specs.Leasts.{NonNegative}
@@ -28,10 +28,10 @@ use Rattle.rewriting.proofs.Rewritten.{rewrites_open, judged_cases}
 use Rattle.rewriting.proofs.Judged.{judged_above}
 use Rattle.weights.proofs.Held.{moved_total, rewrites_within}
 use Rattle.directional.specs.Directional.{train_round, directed, direct_outcome, direct_block}
-use Rattle.directional.specs.Heights.{Ascending}
+use Rattle.directional.specs.Heights.{Ascending, Ready}
 use Rattle.directional.proofs.Trees.{Settled, settled-least, least_as}
 use Rattle.directional.proofs.Heights.{heights_start}
-use Rattle.directional.proofs.Progress.{Progress, progress_train}
+use Rattle.directional.proofs.Progress.{Progress, progress_map, progress_loaded, ready_progress, progress_train}
 use Rattle.directional.proofs.Turns.{Over, over_train}
 
 pub study_ascending : {b : List ℤ} → Study b → Ascending b
@@ -125,15 +125,21 @@ module _ {b : List ℤ} (s : Study b) where
 
 -- ---- by its turns
 
-pub directed-start : (b : List ℤ) → down (trains b) train_round b ≡ directed b
-unfolding directed
-directed-start b = refl
-
 -- the turn of train j
 pub directed_turn : (j : ℕ) (b c : List ℤ) {d : List ℤ} → 0 < j → down j train_round c ≡ directed b → d ≡ train_round (j - 1) c → down (j - 1) train_round d ≡ directed b
 directed_turn j b c h e f =
     let q : (j - 1) + 1 ≡ j = omega arith in
     ap (down (j - 1) train_round) f ∙ sym (down-more (j - 1) train_round c) ∙ ap (λ (n : ℕ). down n train_round c) q ∙ e
 
-pub directed_by : (b : List ℤ) {t d : List ℤ} → t ≡ b → d ≡ directed t → d ≡ directed b
-directed_by b e f = f ∙ ap directed e
+module _ {b : List ℤ} (s : Study b) (j : ℕ) (c : List ℤ) (h : 0 < j) (l : j ≤ trains b) (g : Progress b (λ k. second b k < j) c) where
+  waits : Progress b (λ k. second b k < (j - 1) + 1) c
+  waits = progress_map (λ k v. omega arith) g
+
+  -- what the turn of train j - 1 asks, after those of the trains from j on, and what it keeps
+  pub round_asked : Ready c (j - 1) × (j - 1 < trains c)
+  round_asked =
+      let o = study_shape_in_range s in
+      (ready_progress o (study_non_empty s) (study_ascending s) waits, omega (arith, same_trains (progress_loaded o waits).shape))
+
+  pub round_kept : Progress b (λ k. second b k < j - 1) (train_round (j - 1) c)
+  round_kept = progress_train (study_shape_in_range s) (study_non_empty s) (study_ascending s) (j - 1) (omega arith) c waits

@@ -1,5 +1,5 @@
 -- Rounds of small studies, with all that they leave, and rounds that are declined: tables, and one statement over all of each, which the checker computes.
-use mathlib.Core.Bool.{Bool, true, false, not, ◌&&◌}
+use mathlib.Core.Bool.{Bool, true, false, ◌&&◌}
 use mathlib.Core.List.{List, [], ◌∷◌}
 use Prim.Native.Nat.{ℕ, ◌+◌}
 use lib.Dec.{T, eqb}

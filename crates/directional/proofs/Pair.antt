@@ -4,20 +4,20 @@ use mathlib.Core.Path.{◌≡◌, refl, sym, ap, ap₂, ◌∙◌}
 use mathlib.Core.Bool.{true}
 use mathlib.Core.List.{List}
 use mathlib.Core.Logic.{◌⊎◌, inl, inr, ⊎_elim, dite, ◌≢◌}
-use Prim.Native.Nat.{ℕ, ◌+◌, ◌*◌, ◌-◌, ◌/◌, ◌%◌, ◌<◌, ◌≤◌}
+use Prim.Native.Nat.{ℕ, ◌+◌, ◌*◌, ◌-◌, ◌/◌, ◌%◌, ◌<◌, ◌≤◌, ◌^◌}
 use native.Mathlib.Decide.{dec_lt}
 use native.Mathlib.Omega.{arith}
 use lib.IntN.{ℤ, pos, neg_ℤ, neg_ℤ-neg_ℤ, ◌+ℤ◌}
 use Rattle.theory.specs.Fold.{iter}
 use Rattle.tables.specs.Block.{max_trains, max_choices, max_pairs, constant_place, held_choice_place, held_entry_place, at, figure, trains, pairs, size, first, second, held_entry}
 use Rattle.tables.specs.Plans.{shape_of}
-use Rattle.tables.proofs.Study.{same_second, figure_at}
+use Rattle.tables.proofs.Study.{same_pairs, same_second, figure_at}
 use Rattle.rewriting.specs.declared.sides.PlaceRun.{PlaceRun}
 use Rattle.rewriting.specs.declared.sides.Side.TheVariants.{Rows, Columns}
 use Rattle.rewriting.specs.Moves.{Room, ShapeInRange, run_place, move_run, lane_run, choices_run}
-use Rattle.rewriting.specs.Leasts.{open_place, run_least, run_tightened, lane_tightened, lanes_tightened}
-use Rattle.rewriting.proofs.Runs.{Met, Missed, meet}
-use Rattle.rewriting.proofs.Shape.{room_figure, SameLoaded, loaded_then, same_lane, same_lanes, lane, lane_train_lem, lanes_most, project_between_costs}
+use Rattle.rewriting.specs.Leasts.{NonNegative, open_place, run_least, run_tightened, lane_tightened, lanes_tightened}
+use Rattle.rewriting.proofs.Runs.{room_more, Met, Missed, meet}
+use Rattle.rewriting.proofs.Shape.{room_figure, shape_in_range_kept, SameLoaded, loaded_same, loaded_then, same_lane, same_lanes, lane, lane_train_lem, lanes_most, project_between_costs}
 use Rattle.rewriting.proofs.Falls.{less, run_least_met, run_least_most, tight_is}
 use Rattle.directional.specs.Directional.{cost_taken, column_taken, columns_taken, pair_round}
 use Rattle.directional.proofs.Distances.{negated_near}
@@ -284,7 +284,29 @@ module _ {b : List ℤ} (s : ShapeInRange b) (k : ℕ) (h : k < pairs b) (l : fi
         zero = row_zero;
       }
 
--- by its calls
-pub pair_round_by : (k : ℕ) (b : List ℤ) {c d : List ℤ} → c ≡ columns_taken k b → d ≡ lanes_tightened Rows k c → d ≡ pair_round k b
-unfolding pair_round
-pair_round_by k b p q = q ∙ rw p
+-- ---- what the calls ask of the block on the way
+
+module _ {b : List ℤ} (s : ShapeInRange b) (o : NonNegative b) (k : ℕ) (h : k < pairs b) where
+  starts : Whole b
+  starts = record { long = s.whole; non_negative = o }
+
+  -- column x, after the columns before it
+  pub column_asked : (x : ℕ) → Room b (2 ^ 50) → x < size b (second b k)
+      → let c = iter x (column_taken k) b in ShapeInRange c × Room c (2 ^ 57) × (k < pairs c) × (x < size c (second c k))
+  column_asked x r l =
+      let e = (columns_part s k h b (loaded_same b) starts x (omega arith)).loaded.shape in
+      let m = columns_room s k h b (loaded_same b) starts (2 ^ 50) r x (omega arith) in (
+        shape_in_range_kept e s,
+        room_more (2 ^ 57) m (omega (arith, lanes_most s Columns k h)),
+        omega (arith, same_pairs e),
+        omega (arith, same_lanes e s k (omega (arith, s.pairs)) Columns),
+      )
+
+  -- the rows, after all columns
+  pub rows_asked : Room b (2 ^ 47) → let c = columns_taken k b in ShapeInRange c × NonNegative c × Room c (2 ^ 52) × (k < pairs c)
+  rows_asked r =
+      let n = size b (second b k) in
+      let a = columns_part s k h b (loaded_same b) starts n (omega arith) in
+      let e = a.loaded.shape in
+      let m = columns_room s k h b (loaded_same b) starts (2 ^ 47) r n (omega arith) in
+      (shape_in_range_kept e s, a.whole.non_negative, room_more (2 ^ 52) m (omega (arith, lanes_most s Columns k h)), omega (arith, same_pairs e))

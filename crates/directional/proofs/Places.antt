@@ -12,9 +12,9 @@ use Rattle.tables.specs.Plans.{shape_of}
 use Rattle.tables.specs.WellFormed.{is_open}
 use Rattle.tables.proofs.Study.{same_figure, figure_at}
 use Rattle.rewriting.specs.declared.sides.Side.TheVariants.{Rows, Columns}
-use Rattle.rewriting.specs.Moves.{ShapeInRange}
+use Rattle.rewriting.specs.Moves.{Room, ShapeInRange}
 use Rattle.rewriting.specs.Leasts.{open_place, NonNegative}
-use Rattle.rewriting.proofs.Shape.{SameLoaded, lanes_most}
+use Rattle.rewriting.proofs.Shape.{room_figure, SameLoaded, lanes_most}
 use Rattle.rewriting.proofs.Opens.{open_choice, open_entry, open_same}
 use Rattle.directional.specs.Directional.{cost_taken}
 
@@ -35,6 +35,10 @@ cost_low c i a = go ((shape_of c).choice_open i a)
     go : (t : Bool) → cond t (held_choice c i a) 0 ≤ held_choice c i a
     go true = omega arith
     go false = omega arith
+
+-- no further than the numbers of the block
+pub cost_room : (c : List ℤ) (i a h : ℕ) → Room c h → cost_taken c i a ≤ h
+cost_room c i a h o = omega (arith, cost_low c i a, room_figure (held_choice_place i a) c h o)
 
 -- the two ways of the test
 pub cost_open : (c : List ℤ) (i a : ℕ) → (shape_of c).choice_open i a ≡ true → cost_taken c i a ≡ held_choice c i a

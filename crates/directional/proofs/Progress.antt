@@ -2,7 +2,7 @@
 use mathlib.Core.Path.{◌≡◌, sym, ap, ◌∙◌}
 use mathlib.Core.List.{List}
 use mathlib.Core.Logic.{◌≢◌}
-use Prim.Native.Nat.{ℕ, ◌+◌, ◌<◌, ◌≤◌}
+use Prim.Native.Nat.{ℕ, ◌+◌, ◌<◌, ◌≤◌, ◌^◌}
 use native.Mathlib.Decide.{ℕ_discrete}
 use native.Mathlib.Omega.{arith}
 use lib.IntN.{ℤ, pos, neg_ℤ}
@@ -10,10 +10,10 @@ use borrow.Author.Tests.{eq-eqb, ne_eqb}
 use Rattle.theory.specs.Fold.{iter}
 use Rattle.theory.proofs.Fold.{iter-ind}
 use Rattle.tables.specs.Block.{trains, pairs, size, first, second}
-use Rattle.tables.proofs.Study.{same_pairs, same_first, same_second}
+use Rattle.tables.proofs.Study.{same_trains, same_pairs, same_first, same_second}
 use Rattle.rewriting.specs.declared.sides.Side.TheVariants.{Rows, Columns}
 use Rattle.rewriting.specs.Moves.{Room, ShapeInRange, NonEmpty, lane_run, choices_run}
-use Rattle.rewriting.specs.Leasts.{run_least, run_tightened, lanes_tightened, train_tightened}
+use Rattle.rewriting.specs.Leasts.{NonNegative, run_least, run_tightened, lanes_tightened, train_tightened}
 use Rattle.rewriting.proofs.Runs.{room_more}
 use Rattle.rewriting.proofs.Shape.{SameLoaded, shape_in_range_kept, non_empty_kept, same_lanes, Moved, none, moved_loaded, moved_shape, moved_unary, lanes_moved, Any}
 use Rattle.directional.specs.Directional.{cost_taken, columns_taken, pair_round, pair_turn, pairs_round, train_round}
@@ -150,7 +150,22 @@ module _ {b : List ℤ} (s : ShapeInRange b) where
         progress_map (λ k l. (omega arith, λ e. omega arith))
         (progress_lift j h (pairs_round j c) (progress_pairs j c (progress_map (λ k v. omega arith) g)))
 
--- by its calls
-pub train_round_by : (j : ℕ) (b : List ℤ) {c d : List ℤ} → c ≡ pairs_round j b → d ≡ train_tightened j c → d ≡ train_round j b
-unfolding train_round
-train_round_by j b p q = q ∙ rw p
+-- ---- what the calls ask of the block on the way
+
+module _ {b : List ℤ} {j : ℕ} (r : Ready b j) (n : ℕ) where
+  after : n ≤ pairs b → Progress b (Waiting b j n) (iter n (pair_turn j) b)
+  after l = progress_part r.shape_in_range r.non_empty r.ascending j n l b (progress_ready r)
+
+  -- pair n, after the pairs before it
+  pub turn_asked : n < pairs b → let c = iter n (pair_turn j) b in ShapeInRange c × NonNegative c × Room c (2 ^ 47) × (n < pairs c)
+  turn_asked l =
+      let p = after (omega arith) in
+      let e = (progress_loaded r.shape_in_range p).shape in
+      (shape_in_range_kept e r.shape_in_range, p.whole.non_negative, progress_room (2 ^ 47) (omega arith) p, omega (arith, same_pairs e))
+
+  -- the lift of train j, after n pairs
+  pub lift_asked : n ≤ pairs b → j < trains b → let c = iter n (pair_turn j) b in ShapeInRange c × Room c (2 ^ 57) × (j < trains c)
+  lift_asked l h =
+      let p = after l in
+      let e = (progress_loaded r.shape_in_range p).shape in
+      (shape_in_range_kept e r.shape_in_range, progress_room (2 ^ 57) (omega arith) p, omega (arith, same_trains e))

@@ -1,6 +1,6 @@
 -- A plan that costs nothing beyond the constant, where nothing is forbidden, train by train from 0 up: a train that is second to no pair takes its free choice; a train that is second
 -- to one pair takes the free entry of that pair in the row of its first train, which is lower and has chosen. Shapes and costs only, for every size.
-use mathlib.Core.Path.{◌≡◌, sym, ap, ◌∙◌}
+use mathlib.Core.Path.{◌≡◌, sym, ◌∙◌}
 use mathlib.Core.Bool.{true}
 use mathlib.Core.Logic.{◌⊎◌, inl, inr, ⊎_elim, dite, ◌≢◌}
 use Prim.Native.Nat.{ℕ, zero, suc, ◌+◌, ◌<◌, ◌≤◌}

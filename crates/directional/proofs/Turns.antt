@@ -9,7 +9,7 @@ use native.Mathlib.Decide.{ℕ_discrete}
 use native.Mathlib.Omega.{arith}
 use lib.IntN.{ℤ, pos, neg_ℤ, ◌+ℤ◌}
 use Rattle.theory.proofs.Fold.{iter-ind}
-use Rattle.tables.specs.Block.{max_trains, constant_place, held_choice_place, held_entry_place, at, figure, trains, pairs, constant, size, first, second, held_choice, held_entry}
+use Rattle.tables.specs.Block.{max_trains, constant_place, held_choice_place, held_entry_place, figure, trains, pairs, constant, size, first, second, held_choice, held_entry}
 use Rattle.tables.specs.Plans.{shape_of}
 use Rattle.tables.proofs.Study.{same_figure, same_pairs, same_second, figure_at}
 use Rattle.rewriting.specs.Moves.{ShapeInRange, NonEmpty}

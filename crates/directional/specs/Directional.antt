@@ -1,7 +1,7 @@
 -- Document 02, change 4, '08': the directional round. Source document 000, section 3, calls it directional arc consistency.
 use Rattle.std.specs.Prelude.{cond, List, ℕ, eqb, ℤ, pos, neg_ℤ}
 use Rattle.theory.specs.Fold.{iter, down}
-use Rattle.refusals.specs.declared.Verdict.{Verdict}
+use Rattle.refusals.specs.Verdicts.{Verdict}
 use Rattle.tables.specs.Block.{trains, pairs, size, second, held_choice}
 use Rattle.tables.specs.Plans.{shape_of}
 use Rattle.rewriting.specs.declared.sides.Side.TheVariants.{Rows, Columns}

@@ -2,15 +2,15 @@
 use mathlib.Core.Path.{◌≡◌, refl, ◌∙◌}
 use mathlib.Core.Bool.{Bool, true, false, cond, ◌&&◌}
 use mathlib.Core.List.{List, [], ◌∷◌}
-use mathlib.Core.Logic.{◌⊎◌, inl, inr, ⊎_elim}
-use Prim.Native.Nat.{ℕ, zero, suc, ◌+◌, ◌-◌, ◌<◌, ◌≤◌}
+use mathlib.Core.Logic.{◌⊎◌, inl, inr}
+use Prim.Native.Nat.{ℕ, suc, ◌+◌, ◌-◌, ◌<◌, ◌≤◌}
 use native.Mathlib.Omega.{arith}
 use lib.Dec.{leb, ltb, eqb}
 use lib.ListN.{length}
 use borrow.Author.Tests.{ltb-true, le-leb, lt-leb, ne_eqb, eqb-true}
 use Rattle.theory.specs.Range.{all}
 use Rattle.theory.specs.Lists.{nth}
-use Rattle.theory.proofs.Range.{both_true, below_suc, all_true}
+use Rattle.theory.proofs.Range.{both_true, all_true}
 use Rattle.frames.specs.Digits.{digits, place_of, no_digit, digit}
 use Rattle.frames.specs.Frames.{is_digit}
 
@@ -55,22 +55,9 @@ unfolding place_of
 place_none c [] h = refl
 place_none c (d ∷ l) h = rw (ne_eqb c d (h 0 (omega arith)), place_none c l (λ v q. h (suc v) (omega arith))) (omega arith)
 
-none_listed : (c : ℕ) → ((v : ℕ) → v < 16 → c ≡ nth digits v → ⊥) → digit c ≡ no_digit
+pub other_digit : (c : ℕ) → ((v : ℕ) → v < 16 → c ≡ nth digits v → ⊥) → digit c ≡ no_digit
 unfolding digit
-none_listed c h = place_none c digits h
-
--- c is none of the first n, as the last arm of a `match` says it
-abbrev pub Others : ℕ → ℕ → Type 0
-Others c zero = Unit
-Others c (suc n) = Others c n × (c ≡ nth digits n → ⊥)
-
-others_at : (c n : ℕ) → Others c n → (v : ℕ) → v < n → c ≡ nth digits v → ⊥
-others_at c zero o v h e = omega arith
-others_at c (suc n) o v h e =
-    ⊎_elim (λ (q : v ≡ n). o.1 (rw q at e)) (λ (q : v < n). others_at c n o.0 v q e) (below_suc v n h)
-
-pub other_digit : (c : ℕ) → Others c 16 → digit c ≡ no_digit
-other_digit c o = none_listed c (others_at c 16 o)
+other_digit c h = place_none c digits h
 
 -- ---- the two ranges of characters that are digits, and the others
 
@@ -90,7 +77,7 @@ ascii_none c (inr (inr h)) = rw (le-leb 48 c (omega arith), lt-leb c 57 (omega a
 
 -- a listed character has a value in the table too
 pub digit_none : (c : ℕ) → (c < 48) ⊎ ((57 < c) × (c < 65)) ⊎ (70 < c) → digit c ≡ no_digit
-digit_none c h = none_listed c (λ v q e. let z : digit (nth digits v) ≡ no_digit = digit_ascii (nth digits v) (listed_byte v q) ∙ ascii_none (nth digits v) (rw e at h) in omega (arith, listed v q, z))
+digit_none c h = other_digit c (λ v q e. let z : digit (nth digits v) ≡ no_digit = digit_ascii (nth digits v) (listed_byte v q) ∙ ascii_none (nth digits v) (rw e at h) in omega (arith, listed v q, z))
 
 -- ---- a value is at most `no_digit`
 

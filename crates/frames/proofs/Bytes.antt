@@ -1,5 +1,5 @@
 -- Laws of digits and bytes.
-use mathlib.Core.Path.{◌≡◌, refl, sym, ap, ◌∙◌}
+use mathlib.Core.Path.{◌≡◌, refl, sym, ◌∙◌}
 use mathlib.Core.Bool.{Bool, true, false, cond, ◌&&◌, not}
 use mathlib.Core.List.{List}
 use Prim.Native.Nat.{ℕ, ◌+◌, ◌*◌, ◌/◌, ◌%◌, ◌<◌, ◌≤◌}
@@ -10,9 +10,9 @@ use borrow.Author.Tests.{lt-ltb, ltb-true, ltb-false, ne_eqb, eqb-true, eqb-fals
 use Rattle.theory.specs.Range.{all}
 use Rattle.theory.proofs.Range.{both_true, bool_ext, all_true, pass_all}
 use Rattle.frames.specs.Digits.{no_digit, digit, byte_at, bytes}
+use Rattle.refusals.specs.declared.Refusal.TheVariants.{Characters, TooLong}
+use Rattle.refusals.specs.Verdicts.{Fine, Declined}
 use Rattle.frames.specs.Frames.{max_characters, is_digit, all_digits, framed, new_frame, Framed}
-use Rattle.frames.specs.declared.frame.Frame.{Frame}
-use Rattle.frames.specs.declared.frame.NewFrame.TheVariants.{Within, Long, Broken}
 use Rattle.frames.proofs.Ascii.{digit_most}
 
 -- a byte is at most 272, whatever the characters are
@@ -61,12 +61,10 @@ byte_below {l} w i h = omega (arith, w.digits (2 * i) (omega (arith, w.even)), w
 
 -- ---- what the constructor of a frame answers
 
-pub new_framed : (l : List ℕ) (f : Frame) → new_frame l ≡ Within f → Framed l f.bytes
-new_framed l f e = go (ltb max_characters (length l)) (framed l) refl refl e
+pub new_framed : (l : List ℕ) → new_frame l ≡ Fine → Framed l (bytes l)
+new_framed l e = go (ltb max_characters (length l)) (framed l) refl refl e
   where
-    go : (t u : Bool) → ltb max_characters (length l) ≡ t → framed l ≡ u → cond t Long (cond u (Within (record { bytes = bytes l })) Broken) ≡ Within f → Framed l f.bytes
-    go true u p q e = let z : ◌≡◌ {A = ℕ} 0 1 = cc in absurd (omega arith)
-    go false false p q e = let z : ◌≡◌ {A = ℕ} 0 1 = cc in absurd (omega arith)
-    go false true p q e =
-        let h : record { bytes = bytes l } ≡ f = cc in
-        record { digits = q; whole = ap (λ (g : Frame). g.bytes) (sym h); short = ltb-false max_characters (length l) p }
+    go : (t u : Bool) → ltb max_characters (length l) ≡ t → framed l ≡ u → cond t (Declined TooLong) (cond u Fine (Declined Characters)) ≡ Fine → Framed l (bytes l)
+    go true u p q e = cc
+    go false false p q e = cc
+    go false true p q e = record { digits = q; whole = refl; short = ltb-false max_characters (length l) p }

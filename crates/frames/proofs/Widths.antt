@@ -1,5 +1,5 @@
 -- Laws of fields: how large the number of so many bytes is.
-use mathlib.Core.Path.{◌≡◌, refl, ap, ◌∙◌}
+use mathlib.Core.Path.{◌≡◌, ap}
 use mathlib.Core.List.{List}
 use Prim.Native.Nat.{ℕ, zero, suc, ◌+◌, ◌*◌, ◌-◌, ◌<◌, ◌≤◌, ◌^◌}
 use native.Mathlib.Nat.{pow-le-pow_right}
@@ -7,15 +7,14 @@ use mathlib.Core.Logic.{dite}
 use native.Mathlib.Decide.{dec_lt}
 use native.Mathlib.Numerals.{add-one}
 use native.Mathlib.Omega.{arith}
-use lib.IntN.{pos, negsuc, neg_ℤ, nat_abs, ◌-ℤ◌, +ℤ_idl}
+use lib.IntN.{pos, negsuc, neg_ℤ}
 use lib.Signed.{mag}
 use mir.Facts.{to_z-of_z}
 use mir.Syntax.{w64}
-use mir.Val.{SFits, to_z, of_z}
-use mir.ValLaws.{to_z_pos}
+use mir.Val.{to_z, of_z}
 use borrow.Author.Rules.{sfits_of}
 use borrow.Author.Tests.{lt-ltb, le-ltb}
-use Rattle.frames.specs.Digits.{byte_at, bytes}
+use Rattle.frames.specs.Digits.{bytes}
 use Rattle.frames.specs.Fields.{max_width, field, signed}
 use Rattle.frames.proofs.Bytes.{byte_most, Whole, byte_below}
 
@@ -23,16 +22,6 @@ use Rattle.frames.proofs.Bytes.{byte_most, Whole, byte_below}
 
 pub power_more : (w : ℕ) → 256 ^ (w + 1) ≡ 256 * 256 ^ w
 power_more w = rw add-one (omega arith)
-
--- ---- a loop's first and next byte
-
-pub field_none : (l : List ℕ) (at : ℕ) → field l at 0 ≡ 0
-unfolding field
-field_none l at = refl
-
-pub field_more : (l : List ℕ) (at w : ℕ) → field l at (w + 1) ≡ 256 * field l at w + byte_at l (at + w)
-unfolding field
-field_more l at w = rw add-one
 
 -- whatever the characters are, a field fits 64 bits
 field_most : (l : List ℕ) (at w : ℕ) → 255 * field l at w + 272 ≤ 272 * 256 ^ w
@@ -69,25 +58,9 @@ pub signed_high : (w v : ℕ) → 256 ^ w ≤ 2 * v → v < 256 ^ w → signed w
 unfolding signed
 signed_high w v h q = rw (le-ltb (2 * v) (256 ^ w) h) (neg_of (256 ^ w - v) (omega arith))
 
--- how far the opposite of a natural number is from 0
-pub neg_nat_abs : (n : ℕ) → nat_abs (neg_ℤ (pos n)) ≡ n
-neg_nat_abs zero = refl
-neg_nat_abs (suc n) = refl
-
 neg_mag : (n : ℕ) → mag (neg_ℤ (pos n)) ≤ n
 neg_mag zero = omega arith
 neg_mag (suc n) = omega arith
-
--- a machine's `-x`, of a natural number that fits
-module _ (n : ℕ) (h : n < 2 ^ 63) where
-  minus : pos 0 -ℤ to_z w64 n ≡ neg_ℤ (pos n)
-  minus = rw (to_z_pos w64 n h) (+ℤ_idl (neg_ℤ (pos n)))
-
-  pub minus_fits : SFits w64 (pos 0 -ℤ to_z w64 n)
-  minus_fits = rw minus (sfits_of (omega (arith, neg_mag n)))
-
-  pub minus_back : to_z w64 (of_z w64 (pos 0 -ℤ to_z w64 n)) ≡ neg_ℤ (pos n)
-  minus_back = to_z-of_z minus_fits ∙ minus
 
 -- a number of at most 6 bytes fits a signed 64-bit place
 signed_mag : (w v : ℕ) → v < 256 ^ w → mag (signed w v) ≤ 256 ^ w

@@ -1,9 +1,9 @@
 -- Document 01, 'Lines': 'A line is an even number, at least 2, of digits', at most 19,834 characters.
 use Rattle.std.specs.Prelude.{◌≡◌, Bool, true, cond, ◌&&◌, not, List, ℕ, ◌%◌, ◌≤◌, ltb, eqb, length}
 use Rattle.theory.specs.Range.{pass}
+use Rattle.refusals.specs.declared.Refusal.TheVariants.{Characters, TooLong}
+use Rattle.refusals.specs.Verdicts.{Verdict, Fine, Declined}
 use Rattle.frames.specs.Digits.{no_digit, digit, bytes}
-use Rattle.frames.specs.declared.frame.NewFrame.{NewFrame}
-use Rattle.frames.specs.declared.frame.NewFrame.TheVariants.{Within, Long, Broken}
 
 -- 2: 'over 19,834 characters'
 abbrev pub max_characters : ℕ
@@ -19,9 +19,9 @@ all_digits l = pass (λ i c. is_digit c) 0 l
 unfoldable pub framed : List ℕ → Bool
 framed l = not (eqb (length l) 0) && (eqb (length l % 2) 0 && all_digits l)
 
--- the frame of a line, where it is one; 2 goes before 1
-abbrev pub new_frame : List ℕ → NewFrame
-new_frame l = cond (ltb max_characters (length l)) Long (cond (framed l) (Within (record { bytes = bytes l })) Broken)
+-- whether a line is a frame; 2 goes before 1
+abbrev pub new_frame : List ℕ → Verdict
+new_frame l = cond (ltb max_characters (length l)) (Declined TooLong) (cond (framed l) Fine (Declined Characters))
 
 -- a line that is a frame of so many bytes: what the reading functions ask of their line
 pub record Framed (l : List ℕ) (count : ℕ) : Type 0 where

@@ -3,10 +3,11 @@ ghost use Rattle.std.specs.Prelude.{◌≡◌, ◌+◌, ◌*◌, ◌<◌, length
 ghost use Rattle.frames.specs.Digits.{no_digit, digit, digit_of, byte_at};
 ghost use Rattle.frames.specs.Frames.{is_digit};
 
-// What `value` answers where a character is no digit.
+// What `value` answers where a character is no digit. It is a number and no Option, since `byte` counts such a character as this number (byte_at).
 const NO_DIGIT: u8 = 16;
 
 // The value of a digit, NO_DIGIT where the character is none.
+#[tactic(auto, unfolding(crate::specs::Digits::digit, crate::specs::Digits::place_of))]
 pub fn value(c: u8) -> u8
     ensures { result ≡ digit c }
 {
@@ -32,17 +33,15 @@ pub fn value(c: u8) -> u8
 }
 
 // Whether a character is a digit: by its two ranges in ASCII, so that several characters can be asked at once.
+#[tactic(auto, using(crate::proofs::Ascii::digit_low, crate::proofs::Ascii::digit_high, crate::proofs::Ascii::digit_none))]
 pub fn is_digit(c: u8) -> bool
     ensures { result ≡ is_digit c }
 {
-    match c {
-        b'0'..=b'9' => true,
-        b'A'..=b'F' => true,
-        _ => false,
-    }
+    matches!(c, b'0'..=b'9' | b'A'..=b'F')
 }
 
 // The digit of a value.
+#[tactic(auto, unfolding(crate::specs::Digits::digit_of))]
 pub fn digit_of(v: u8) -> u8
     requires { v < no_digit }
     ensures { result ≡ digit_of v }
@@ -54,9 +53,10 @@ pub fn digit_of(v: u8) -> u8
 }
 
 // Byte i of a line.
+#[tactic(auto, unfolding(crate::specs::Digits::byte_at))]
 pub fn byte(line: &[u8], i: usize) -> u64
     requires { 2 * i + 1 < length line.now }
     ensures { result ≡ byte_at line.now i }
 {
-    16 * (value(line[2 * i]) as u64) + value(line[2 * i + 1]) as u64
+    16 * u64::from(value(line[2 * i])) + u64::from(value(line[2 * i + 1]))
 }

@@ -1,41 +1,45 @@
-// Runs of fields of equal width, written into lent slices: what a caller stores.
-ghost use Rattle.std.specs.Prelude.{◌≡◌, true, ◌+◌, ◌*◌, ◌<◌, ◌≤◌, length};
-ghost use Rattle.std.proofs.Math.Seq.{paste};
-ghost use Rattle.frames.specs.Fields.{max_width, field};
+// Runs of fields of equal width, put behind a list of fixed capacity: what a caller stores.
+ghost use Rattle.std.specs.Prelude.{◌≡◌, true, ◌++◌, ◌+◌, ◌*◌, ◌≤◌, length};
+ghost use Rattle.frames.specs.Fields.{max_width};
 ghost use Rattle.frames.specs.Frames.{framed};
 ghost use Rattle.frames.specs.Runs.{run_of, signed_run_of};
 
 use crate::fields;
+use arrayvec::ArrayVec;
 
-// A run of fields of `width` bytes from byte `at` on, as many as the slice has places.
-pub fn decode(line: &[u8], at: usize, width: usize, out: &mut [u64])
-    requires { (2 * (at + width * length out.old) ≤ length line.now) × (width ≤ max_width) }
-    ensures { out.new ≡ run_of line.now at width (length out.old) }
+// A run of `count` fields of `width` bytes, from byte `at` on.
+#[tactic(auto, using(theory::proofs::Sum::part_inside, theory::proofs::Lists::list_next), unfolding(theory::specs::Lists::list_from))]
+pub fn decode<const N: usize>(
+    line: &[u8],
+    at: usize,
+    width: usize,
+    count: usize,
+    out: &mut ArrayVec<u64, N>,
+)
+    requires there { (2 * (at + width * count) ≤ length line.now) × (width ≤ max_width) }
+    requires room { length out.old.items + count ≤ N }
+    ensures { out.new.items ≡ out.old.items ++ run_of line.now at width count }
 {
-    let count = out.len();
-    decode_at(line, at, width, out, 0, count);
-}
-
-// A run of `count` fields, into the places of the slice from `from` on.
-pub fn decode_at(line: &[u8], at: usize, width: usize, out: &mut [u64], from: usize, count: usize)
-    requires { (2 * (at + width * count) ≤ length line.now) × (width ≤ max_width) × (from + count ≤ length out.old) }
-    ensures { out.new ≡ paste out.old from (run_of line.now at width count) count }
-{
-    let mut k = 0;
-    while k < count {
-        out[from + k] = fields::field(line, at + width * k, width);
-        k += 1;
+    for k in 0..count {
+        out.push(fields::field(line, at + width * k, width));
     }
 }
 
-// A run of fields in two's complement, as many as the slice has places.
-pub fn decode_signed(line: &[u8], at: usize, width: usize, out: &mut [i64])
-    requires { (framed line.now ≡ true) × (2 * (at + width * length out.old) ≤ length line.now) × (width ≤ max_width) }
-    ensures { out.new ≡ signed_run_of line.now at width (length out.old) }
+// The same of fields in two's complement.
+#[tactic(auto, using(theory::proofs::Sum::part_inside, theory::proofs::Lists::list_next, crate::proofs::Bytes::framed_whole, crate::proofs::Widths::field_below), unfolding(theory::specs::Lists::list_from))]
+pub fn decode_signed<const N: usize>(
+    line: &[u8],
+    at: usize,
+    width: usize,
+    count: usize,
+    out: &mut ArrayVec<i64, N>,
+)
+    requires there { (framed line.now ≡ true) × (2 * (at + width * count) ≤ length line.now) × (width ≤ max_width) }
+    requires room { length out.old.items + count ≤ N }
+    ensures { out.new.items ≡ out.old.items ++ signed_run_of line.now at width count }
 {
-    let mut k = 0;
-    while k < out.len() {
-        out[k] = fields::signed(width, fields::field(line, at + width * k, width));
-        k += 1;
+    for k in 0..count {
+        let field = fields::field(line, at + width * k, width);
+        out.push(fields::signed(width, field));
     }
 }

@@ -1,12 +1,14 @@
 // The program: reads standard input, starts fresh, and prints a reply line for each input line as soon as the line is complete.
 #![tactic(auto)]
 
-ghost use Rattle.std.specs.Prelude.{◌≡◌, true, ◌≤◌, pos, length, take};
-ghost use Rattle.io.specs.Counts.{clamp_len};
+ghost use Rattle.std.specs.Prelude.{◌≡◌, ◌≤◌, unwrap_or, length, take};
+ghost use Rattle.std.specs.ControlFlow.{ForContinue};
 ghost use Rattle.stream.specs.Parts.{over_part, last_answer};
 ghost use Rattle.stream.specs.Steps.{Leaves, AfterParts, StepPrints, EndPrints};
 
+use arrayvec::ArrayVec;
 use std::io::Read;
+use std::ops::ControlFlow;
 use stream::splitting;
 use stream::splitting::{KEPT, REPLY};
 use tables::block::Block;
@@ -22,145 +24,97 @@ const STDOUT: i32 = 1;
 
 const STDERR: i32 = 2;
 
-// How many characters of a line are kept, and whether to go on.
-#[derive(Clone, Copy)]
-struct Kept {
-    length: usize,
-    on: bool,
+// Reads from standard input, and does nothing else: the bytes go to the front of the array, and it answers how many, 0 at the end of the input, nothing where the read fails.
+fn read(rt: &HostRuntime, bytes: &mut [u8; INPUT]) -> Option<usize> {
+    rt.stdin().read(bytes).ok()
 }
 
-// Reads from standard input, and does nothing else: the bytes go to the front of the array, and it answers how many, 0 at the end of the input, below 0 where the read fails.
-fn read(rt: &HostRuntime, bytes: &mut [u8; INPUT]) -> isize {
-    match rt.stdin().read(bytes) {
-        Ok(n) => n as isize,
-        Err(_) => -1,
-    }
-}
-
-// Writes to standard output. Where that fails it says so on standard error.
-fn print(reply: &[u8]) -> bool {
+// Writes to standard output. It goes on unless that fails, and then says so on standard error.
+fn print(reply: &[u8]) -> ControlFlow<()> {
     if io::write_all(STDOUT, reply) {
-        return true;
+        return ControlFlow::Continue(());
     }
     io::write_all(
         STDERR,
         b"junction: a reply could not be written, and no further line is answered\n",
     );
-    false
+    ControlFlow::Break(())
 }
 
 // Writes the first n characters of `reply`, which a step on a part prints, to standard output, and does nothing else. Part and block stand here for the contract alone.
-fn print_step(part: &[u8], block: &[i64; Block::LENGTH], reply: &[u8], n: usize) -> bool
+fn print_step(part: &[u8], block: &[i64; Block::LENGTH], reply: &[u8], n: usize) -> ControlFlow<()>
     requires { (n ≤ length reply.now) × StepPrints part.now block.now (take n reply.now) }
 {
     print(&reply[..n])
 }
 
-// The same at the end of the input, where `kept` characters of the last line are kept.
-fn print_end(
-    line: &[u8; KEPT],
-    kept: usize,
-    block: &[i64; Block::LENGTH],
-    reply: &[u8],
-    n: usize,
-) -> bool
-    requires { (n ≤ length reply.now) × EndPrints (take kept line.now) block.now (take n reply.now) }
+// The same at the end of the input, where `line` is kept of the last line.
+fn print_end(line: &[u8], block: &[i64; Block::LENGTH], reply: &[u8], n: usize) -> ControlFlow<()>
+    requires { (n ≤ length reply.now) × EndPrints line.now block.now (take n reply.now) }
 {
     print(&reply[..n])
 }
 
-// Answers the lines that end in the first n bytes, each with one write. It goes on unless a write fails.
+// Answers the lines that end in a part, each with one write. It goes on unless a write fails.
 fn answer_part(
-    bytes: &[u8],
-    n: usize,
-    line: &mut [u8; KEPT],
-    kept: usize,
+    part: &[u8],
+    line: &mut ArrayVec<u8, KEPT>,
     block: &mut [i64; Block::LENGTH],
     reply: &mut [u8; REPLY],
-) -> Kept
-    requires n_in_bounds { n ≤ length bytes.now }
-    requires after_parts { AfterParts line.old block.old kept }
-    ensures { result.on ≡ true → Leaves (over_part (take kept line.old) block.old (take n bytes.now)) line.new block.new result.length }
+) -> ControlFlow<()>
+    requires { AfterParts line.old.items block.old }
+    ensures { ForContinue result (λ _. Leaves (over_part line.old.items block.old part.now) line.new.items block.new) }
 {
-    let mut length = kept;
-    let mut at = 0;
-    while at < n {
-        let rest = &bytes[at..n];
-        let step = splitting::next_line(rest, line, length, block, reply);
-        length = step.kept;
-        at += step.used;
-        let written = step.written;
-        if !print_step(rest, block, reply, written) {
-            return Kept {
-                length: length,
-                on: false,
-            };
-        }
+    let mut rest = part;
+    // A step says how much it took, so that no `for` goes over the part.
+    while !rest.is_empty() {
+        let step = splitting::next_line(rest, line, block, reply);
+        print_step(rest, block, reply, step.written)?;
+        rest = &rest[step.used..];
     }
-    Kept {
-        length: length,
-        on: true,
-    }
+    ControlFlow::Continue(())
 }
 
 // At the end of the input: 'A last line without a line end is a line too, unless empty.'
-fn answer_last(
-    line: &[u8; KEPT],
-    kept: usize,
-    block: &mut [i64; Block::LENGTH],
-    reply: &mut [u8; REPLY],
-)
-    requires { AfterParts line.now block.old kept }
-    ensures { block.new ≡ (last_answer (take kept line.now) block.old).block }
+fn answer_last(line: &ArrayVec<u8, KEPT>, block: &mut [i64; Block::LENGTH], reply: &mut [u8; REPLY])
+    requires { AfterParts line.now.items block.old }
+    ensures { block.new ≡ (last_answer line.now.items block.old).block }
 {
-    let n = splitting::last_line(line, kept, block, reply);
-    print_end(line, kept, block, reply, n);
+    let n = splitting::last_line(line, block, reply);
+    print_end(line, block, reply, n);
 }
 
 // After a read that answered `got`: answers what came, at the end of the input the last line. It goes on unless the input has ended, or a read or a write failed.
 fn answer_read(
-    got: isize,
+    got: Option<usize>,
     bytes: &[u8; INPUT],
-    line: &mut [u8; KEPT],
-    kept: usize,
+    line: &mut ArrayVec<u8, KEPT>,
     block: &mut [i64; Block::LENGTH],
     reply: &mut [u8; REPLY],
-) -> Kept
-    requires { AfterParts line.old block.old kept }
-    ensures leaves { result.on ≡ true → Leaves (over_part (take kept line.old) block.old (take (clamp_len got (length bytes.now)) bytes.now)) line.new block.new result.length }
-    ensures block_after { got ≡ pos 0 → block.new ≡ (last_answer (take kept line.old) block.old).block }
+) -> ControlFlow<()>
+    requires { AfterParts line.old.items block.old }
+    ensures leaves { ForContinue result (λ _. Leaves (over_part line.old.items block.old (take (unwrap_or got 0) bytes.now)) line.new.items block.new) }
+    ensures block_after { got ≡ Some 0 → block.new ≡ (last_answer line.old.items block.old).block }
 {
-    if got < 0 {
-        return Kept {
-            length: kept,
-            on: false,
-        };
+    match got {
+        None => ControlFlow::Break(()),
+        Some(0) => {
+            answer_last(line, block, reply);
+            ControlFlow::Break(())
+        }
+        Some(n) => answer_part(&bytes[..n.min(INPUT)], line, block, reply),
     }
-    if got == 0 {
-        answer_last(line, kept, block, reply);
-        return Kept {
-            length: kept,
-            on: false,
-        };
-    }
-    let n = io::count(got, bytes);
-    answer_part(bytes, n, line, kept, block, reply)
 }
 
 fn main(rt: HostRuntime) {
     let mut bytes = [0u8; INPUT];
-    let mut line = [0u8; KEPT];
+    let mut line = ArrayVec::new();
     let mut block = [0i64; Block::LENGTH];
     let mut reply = [0u8; REPLY];
-    let mut length = 0;
-    let mut reads = READS;
-    while 0 < reads {
+    for _ in 0..READS {
         let got = read(&rt, &mut bytes);
-        let kept = answer_read(got, &bytes, &mut line, length, &mut block, &mut reply);
-        if !kept.on {
+        if answer_read(got, &bytes, &mut line, &mut block, &mut reply).is_break() {
             return;
         }
-        length = kept.length;
-        reads -= 1;
     }
 }

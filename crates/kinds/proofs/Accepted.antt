@@ -4,8 +4,7 @@ use mathlib.Core.List.{List}
 use Prim.Native.Nat.{ℕ, ◌-◌, ◌<◌, ◌≤◌}
 use native.Mathlib.Omega.{arith}
 use lib.IntN.{ℤ, nat_abs}
-use Rattle.refusals.specs.declared.Verdict.TheVariants.{Fine}
-use Rattle.refusals.specs.Verdicts.{then}
+use Rattle.refusals.specs.Verdicts.{Fine, then}
 use Rattle.refusals.proofs.Verdicts.{then_fine}
 use Rattle.tables.specs.Block.{max_cost, trains, size}
 use Rattle.tables.specs.LineLimits.{max_move, max_full_weight, max_budget}

@@ -6,8 +6,7 @@ use Prim.Native.Nat.{ℕ, ◌+◌, ◌<◌, ◌≤◌}
 use native.Mathlib.Omega.{arith}
 use lib.Dec.{leb}
 use Rattle.refusals.specs.declared.Refusal.TheVariants.{Fields, Literal}
-use Rattle.refusals.specs.declared.Verdict.TheVariants.{Fine}
-use Rattle.refusals.specs.Verdicts.{then, first_of, unless}
+use Rattle.refusals.specs.Verdicts.{Fine, then, first_of, unless}
 use Rattle.refusals.proofs.Verdicts.{then_fine, unless_fine, first_fine}
 use Rattle.tables.specs.Block.{max_cost}
 use Rattle.tables.specs.LineLimits.{max_clauses}

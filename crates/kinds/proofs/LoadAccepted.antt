@@ -2,8 +2,7 @@
 use mathlib.Core.Path.{◌≡◌}
 use mathlib.Core.List.{List}
 use Prim.Native.Nat.{ℕ, ◌<◌}
-use Rattle.refusals.specs.declared.Verdict.TheVariants.{Fine}
-use Rattle.refusals.specs.Verdicts.{then}
+use Rattle.refusals.specs.Verdicts.{Fine, then}
 use Rattle.refusals.proofs.Verdicts.{then_fine, first_fine}
 use Rattle.frames.specs.Digits.{bytes}
 use Rattle.lines.specs.Layout.{pair_at, load_pairs}

@@ -12,8 +12,7 @@ use Rattle.theory.proofs.Range.{both_true}
 use Rattle.theory.proofs.Sum.{sum_mono, sum_const}
 use Rattle.units.specs.Units.{scale_min, scale_max}
 use Rattle.refusals.specs.declared.Refusal.TheVariants.{Fields, Pair}
-use Rattle.refusals.specs.declared.Verdict.TheVariants.{Fine}
-use Rattle.refusals.specs.Verdicts.{then, unless}
+use Rattle.refusals.specs.Verdicts.{Fine, then, unless}
 use Rattle.refusals.proofs.Verdicts.{then_fine, unless_fine}
 use Rattle.tables.specs.Block.{max_trains, max_choices, entries_of_pair}
 use Rattle.tables.specs.WellFormed.{before}

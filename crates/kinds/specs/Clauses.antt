@@ -1,9 +1,7 @@
 -- Document 02, change 7, 'Kind 09': the first reason to decline a study written as clauses, and the request that it makes.
 use Rattle.std.specs.Prelude.{List, ℕ, leb}
-use Rattle.units.specs.Units.{the_scale}
 use Rattle.refusals.specs.declared.Refusal.TheVariants.{Fields, Literal}
-use Rattle.refusals.specs.declared.Verdict.{Verdict}
-use Rattle.refusals.specs.Verdicts.{then, first_of, unless}
+use Rattle.refusals.specs.Verdicts.{Verdict, then, first_of, unless}
 use Rattle.clauses.specs.Clauses.{literals_right}
 use Rattle.frames.specs.Digits.{bytes}
 use Rattle.lines.specs.declared.request.Request.{Request}
@@ -27,4 +25,4 @@ unfoldable pub clauses_verdict : List ℕ → Verdict
 clauses_verdict l = then (head_verdict l) (then (field_verdict l clause_count_field) (clause_run_verdict l (clause_count l)))
 
 abbrev pub clauses_request : List ℕ → Request
-clauses_request l = Clauses (record { trains = load_trains l; scale = the_scale (load_scale l); clauses = field_run (clause_at 0) (clause_count l) })
+clauses_request l = Clauses (record { trains = load_trains l; scale = load_scale l; clauses = field_run (clause_at 0) (clause_count l) })

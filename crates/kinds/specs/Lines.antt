@@ -1,10 +1,11 @@
 -- Document 01, 'Lines' and 'What is declined': of each kind, the first reason to decline a line, by its fields and by a block that holds a study, and the request that it makes.
-use Rattle.std.specs.Prelude.{List, ℕ, ℤ}
+use Rattle.std.specs.Prelude.{cond, ◌&&◌, List, ℕ, ℤ, Result}
+use Rattle.refusals.specs.declared.Refusal.{Refusal}
+use Rattle.refusals.specs.declared.Refusal.TheVariants.{FreshBlock}
 use Rattle.units.specs.Units.{the_points}
-use Rattle.refusals.specs.declared.Verdict.{Verdict}
-use Rattle.refusals.specs.declared.Verdict.TheVariants.{Fine, Declined}
-use Rattle.refusals.specs.Verdicts.{then}
+use Rattle.refusals.specs.Verdicts.{Verdict, then}
 use Rattle.tables.specs.Block.{trains, size}
+use Rattle.tables.specs.WellFormed.{is_fresh}
 use Rattle.tables.specs.Plans.{shape_of}
 use Rattle.tables.specs.Counts.{move_count, weight_count}
 use Rattle.frames.specs.Digits.{bytes}
@@ -13,7 +14,9 @@ use Rattle.lines.specs.declared.kind.Kind.TheVariants as kind
 use Rattle.lines.specs.declared.request.Request.{Request}
 use Rattle.lines.specs.declared.request.Request.TheVariants.{Add, Shift, Tighten, Certify, Search, Save, Round}
 use Rattle.lines.specs.declared.request.Line.{Line}
-use Rattle.lines.specs.declared.request.Line.TheVariants.{Asked, Refused}
+use Rattle.lines.specs.declared.request.Line.TheVariants.{Refused}
+use Rattle.lines.specs.Kinds.{needs_study}
+use Rattle.lines.specs.Asked.{judged, line_from}
 use Rattle.lines.specs.Layout.{kind_width, below, add_train_field, add_train, add_choice_field, add_choice, points_field, add_points, lift_field, move_field, full_weight_field, certify_full_weight, weight_field, budget_field, search_budget}
 use Rattle.lines.specs.Verdicts.{field_verdict, end_verdict, last_verdict, runs_verdict, field_run}
 use Rattle.kinds.specs.Load.{load_verdict, load_request}
@@ -55,8 +58,7 @@ search_request l = Search (record { budget = search_budget l })
 -- ---- by kind
 
 abbrev pub concluded : Verdict → Request → Line
-concluded Fine q = Asked q
-concluded (Declined r) q = Refused r
+concluded v q = line_from (judged v q)
 
 -- the fields of each kind, judged, and the request that they make
 abbrev pub kind_verdict : Kind → List ℕ → List ℤ → Verdict
@@ -81,5 +83,12 @@ kind_request kind.Save l b = Save
 kind_request kind.Round l b = Round
 kind_request kind.Clauses l b = clauses_request l
 
+abbrev pub fields_asked : Kind → List ℕ → List ℤ → Result Request Refusal
+fields_asked k l b = judged (kind_verdict k l b) (kind_request k l b)
+
 abbrev pub fields_line : Kind → List ℕ → List ℤ → Line
 fields_line k l b = concluded (kind_verdict k l b) (kind_request k l b)
+
+-- 4: a kind that needs a study, 'on a fresh block'
+unfoldable pub study_line : Kind → List ℕ → List ℤ → Line
+study_line k l b = cond (needs_study k && is_fresh b) (Refused FreshBlock) (fields_line k l b)

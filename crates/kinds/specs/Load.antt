@@ -1,9 +1,7 @@
 -- Document 01, '01 load' and 'What is declined': the first reason to decline a load, and the request that it makes.
 use Rattle.std.specs.Prelude.{Bool, ◌&&◌, ◌||◌, List, ℕ, ◌-◌, ◌<◌, ◌≤◌, leb, ltb, eqb}
-use Rattle.units.specs.Units.{the_scale}
 use Rattle.refusals.specs.declared.Refusal.TheVariants.{Fields, Pair}
-use Rattle.refusals.specs.declared.Verdict.{Verdict}
-use Rattle.refusals.specs.Verdicts.{then, first_of, unless}
+use Rattle.refusals.specs.Verdicts.{Verdict, then, first_of, unless}
 use Rattle.tables.specs.Block.{max_trains, max_choices}
 use Rattle.tables.specs.WellFormed.{before}
 use Rattle.frames.specs.Digits.{bytes}
@@ -60,7 +58,7 @@ pub record Sized (l : List ℕ) : Type 0 where
 abbrev pub load_request : List ℕ → Request
 load_request l =
     Load (record {
-      scale = the_scale (load_scale l);
+      scale = load_scale l;
       sizes = field_run size_field.at (load_trains l);
       choices = field_run (choice_field l).at (choice_count l);
       pairs = field_run (end_of (pair_count_field l)) (load_pairs l);

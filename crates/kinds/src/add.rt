@@ -1,18 +1,18 @@
 // Document 01, '02 add': train, choice and points.
 ghost use Rattle.std.specs.Prelude.{◌≡◌};
-ghost use Rattle.tables.specs.WellFormed.{Study};
-ghost use Rattle.frames.specs.Frames.{Framed};
 ghost use Rattle.lines.specs.declared.kind.Kind.TheVariants as kind;
 ghost use Rattle.lines.specs.Layout.{points_field};
-ghost use Rattle.kinds.specs.Lines.{add_verdict, fields_line};
+ghost use Rattle.kinds.specs.Lines.{add_verdict, fields_asked};
 
+use frames::frame::Frame;
 use lines::field::{Field, Rule};
 use lines::kind::Kind;
-use lines::request::{Add, Line, Load, Request};
+use lines::request::{Add, Load, Request};
 use lines::verdict;
 use refusals::{Refusal, Verdict};
 use tables::block;
 use tables::block::Block;
+use tables::held_study::HeldStudy;
 use units::Points;
 
 // The train and the choice; the study decides how many there are.
@@ -40,39 +40,30 @@ fn points_field() -> Field
     Field {
         at: POINTS_AT,
         width: Load::COST_WIDTH,
-        rule: Rule::Between(0, Block::COST.number()),
+        rule: Rule::Between(0, Block::COST.into()),
         refusal: Refusal::Cost,
     }
 }
 
 // Train, choice and points.
-fn add_verdict(line: &[u8], bytes: usize, block: &[i64]) -> Verdict
-    requires { Framed line.now bytes × Study block.now }
-    ensures { result ≡ add_verdict line.now block.now }
+#[tactic(auto, using(tables::proofs::Study::trains_range), unfolding(crate::specs::Lines::add_verdict))]
+fn add_verdict(frame: Frame<'_>, study: HeldStudy<'_>) -> Verdict
+    ensures { result ≡ add_verdict frame.entry.line.now study.entry.numbers.now }
 {
-    let train = verdict::index_verdict(line, bytes, TRAIN, block::trains(block));
-    if !train.is_fine() {
-        return train;
-    }
-    let size = block::size(block, TRAIN.number_in(line) as usize);
-    let choice = verdict::index_verdict(line, bytes, CHOICE, size);
-    if !choice.is_fine() {
-        return choice;
-    }
-    verdict::last_verdict(line, bytes, points_field())
+    verdict::index_verdict(frame, TRAIN, block::trains(study.numbers))?;
+    let size = block::size(study.numbers, TRAIN.number_in(frame.line) as usize);
+    verdict::index_verdict(frame, CHOICE, size)?;
+    verdict::last_verdict(frame, points_field())
 }
 
 // An added cost.
-pub fn read_add(line: &[u8], bytes: usize, block: &[i64]) -> Line
-    requires { Framed line.now bytes × Study block.now }
-    ensures { result ≡ fields_line kind.Add line.now block.now }
+pub fn read_add(frame: Frame<'_>, study: HeldStudy<'_>) -> Result<Request, Refusal>
+    ensures { result ≡ fields_asked kind.Add frame.entry.line.now study.entry.numbers.now }
 {
-    match add_verdict(line, bytes, block) {
-        Verdict::Declined(r) => Line::Refused(r),
-        Verdict::Fine => Line::Asked(Request::Add(Add {
-            train: TRAIN.number_in(line) as usize,
-            choice: CHOICE.number_in(line) as usize,
-            points: Points::of(points_field().number_in(line)),
-        })),
-    }
+    add_verdict(frame, study)?;
+    Ok(Request::Add(Add {
+        train: TRAIN.number_in(frame.line) as usize,
+        choice: CHOICE.number_in(frame.line) as usize,
+        points: Points::from(points_field().number_in(frame.line)),
+    }))
 }

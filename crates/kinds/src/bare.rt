@@ -1,20 +1,18 @@
 // Document 01, '04 tighten: no fields'; document 02, 07 save and 08, a directional round.
 ghost use Rattle.std.specs.Prelude.{◌≡◌};
-ghost use Rattle.frames.specs.Frames.{Framed};
-ghost use Rattle.kinds.specs.Lines.{bare_verdict, concluded};
+ghost use Rattle.lines.specs.Asked.{judged};
+ghost use Rattle.kinds.specs.Lines.{bare_verdict};
 
+use frames::frame::Frame;
 use lines::kind::Kind;
-use lines::request::{Line, Request};
+use lines::request::Request;
 use lines::verdict;
-use refusals::Verdict;
+use refusals::Refusal;
 
 // A kind without fields.
-pub fn read_bare(line: &[u8], bytes: usize, request: Request) -> Line
-    requires { Framed line.now bytes }
-    ensures { result ≡ concluded (bare_verdict line.now) request }
+pub fn read_bare(frame: Frame<'_>, request: Request) -> Result<Request, Refusal>
+    ensures { result ≡ judged (bare_verdict frame.entry.line.now) request }
 {
-    match verdict::end_verdict(bytes, Kind::WIDTH) {
-        Verdict::Declined(r) => Line::Refused(r),
-        Verdict::Fine => Line::Asked(request),
-    }
+    verdict::end_verdict(frame, Kind::WIDTH)?;
+    Ok(request)
 }

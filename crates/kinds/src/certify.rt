@@ -1,15 +1,15 @@
 // Document 01, '05 certify': W and weights, as many as the study asks.
 ghost use Rattle.std.specs.Prelude.{◌≡◌};
-ghost use Rattle.tables.specs.WellFormed.{Study};
-ghost use Rattle.frames.specs.Frames.{Framed};
 ghost use Rattle.lines.specs.declared.kind.Kind.TheVariants as kind;
-ghost use Rattle.kinds.specs.Lines.{fields_line};
+ghost use Rattle.kinds.specs.Lines.{fields_asked};
 
+use frames::frame::Frame;
 use lines::field::{Field, Rule};
 use lines::kind::Kind;
-use lines::request::{Certify, FieldRun, Line, Request};
+use lines::request::{Certify, FieldRun, Request};
 use lines::verdict;
-use refusals::{Refusal, Verdict};
+use refusals::Refusal;
+use tables::held_study::HeldStudy;
 
 // The highest W.
 const HIGHEST: u64 = 100000;
@@ -29,19 +29,17 @@ const WEIGHT: Field = Field {
 };
 
 // A certificate.
-pub fn read_certify(line: &[u8], bytes: usize, block: &[i64]) -> Line
-    requires { Framed line.now bytes × Study block.now }
-    ensures { result ≡ fields_line kind.Certify line.now block.now }
+#[tactic(auto, using(tables::proofs::Counting::weight_count_most, crate::proofs::Accepted::certify_fine), unfolding(crate::specs::Lines::certify_verdict))]
+pub fn read_certify(frame: Frame<'_>, study: HeldStudy<'_>) -> Result<Request, Refusal>
+    ensures { result ≡ fields_asked kind.Certify frame.entry.line.now study.entry.numbers.now }
 {
-    let count = counts::weight_count(block);
-    match verdict::runs_verdict(line, bytes, FULL, 1, WEIGHT, count) {
-        Verdict::Declined(r) => Line::Refused(r),
-        Verdict::Fine => Line::Asked(Request::Certify(Certify {
-            full: FULL.number_in(line),
-            weights: FieldRun {
-                at: WEIGHT.at,
-                count,
-            },
-        })),
-    }
+    let count = counts::weight_count(study);
+    verdict::runs_verdict(frame, FULL, 1, WEIGHT, count)?;
+    Ok(Request::Certify(Certify {
+        full: FULL.number_in(frame.line),
+        weights: FieldRun {
+            at: WEIGHT.at,
+            count,
+        },
+    }))
 }

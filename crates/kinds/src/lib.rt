@@ -1,14 +1,16 @@
 // Document 01, 'Lines' and 'What is declined': the fields of each kind, judged, and the request that they make.
 #![tactic(auto)]
 
-ghost use Rattle.std.specs.Prelude.{◌≡◌, true};
-ghost use Rattle.tables.specs.WellFormed.{Study};
-ghost use Rattle.frames.specs.Frames.{Framed};
-ghost use Rattle.lines.specs.Kinds.{needs_study};
-ghost use Rattle.kinds.specs.Lines.{fields_line};
+ghost use Rattle.std.specs.Prelude.{◌≡◌};
+ghost use Rattle.tables.specs.Known.{numbers_of};
+ghost use Rattle.lines.specs.Asked.{line_from};
+ghost use Rattle.kinds.specs.Lines.{study_line};
 
+use frames::frame::Frame;
 use lines::kind::Kind;
-use lines::request::{Line, Request};
+use lines::request::Request;
+use refusals::Refusal;
+use tables::block::Block;
 
 mod add;
 mod bare;
@@ -17,21 +19,23 @@ pub mod clause_fields;
 pub mod load;
 mod search;
 mod shift;
+pub mod sized_load;
 
-// The fields of each kind.
-pub fn read_fields(line: &[u8], bytes: usize, kind: Kind, block: &[i64]) -> Line
-    requires { Framed line.now bytes × (needs_study kind ≡ true → Study block.now) }
-    ensures { result ≡ fields_line kind line.now block.now }
+// The fields of each kind. Some kinds need a loaded study.
+#[tactic(auto, using(tables::proofs::Study::study_not_fresh), unfolding(crate::specs::Lines::study_line))]
+pub fn read_fields(frame: Frame<'_>, kind: Kind, block: Block<'_>) -> Result<Request, Refusal>
+    ensures { line_from result ≡ study_line kind frame.entry.line.now (numbers_of block.entry) }
 {
-    match kind {
-        Kind::Load => load::read_load(line, bytes),
-        Kind::Add => add::read_add(line, bytes, block),
-        Kind::Shift => shift::read_shift(line, bytes, block),
-        Kind::Tighten => bare::read_bare(line, bytes, Request::Tighten),
-        Kind::Certify => certify::read_certify(line, bytes, block),
-        Kind::Search => search::read_search(line, bytes),
-        Kind::Save => bare::read_bare(line, bytes, Request::Save),
-        Kind::Round => bare::read_bare(line, bytes, Request::Round),
-        Kind::Clauses => clause_fields::read_clauses(line, bytes),
+    match (kind, block) {
+        (Kind::Load, _) => load::read_load(frame),
+        (Kind::Clauses, _) => clause_fields::read_clauses(frame),
+        (_, Block::Fresh) => Err(Refusal::FreshBlock),
+        (Kind::Add, Block::Held(study)) => add::read_add(frame, study),
+        (Kind::Shift, Block::Held(study)) => shift::read_shift(frame, study),
+        (Kind::Tighten, Block::Held(_)) => bare::read_bare(frame, Request::Tighten),
+        (Kind::Certify, Block::Held(study)) => certify::read_certify(frame, study),
+        (Kind::Search, Block::Held(_)) => search::read_search(frame),
+        (Kind::Save, Block::Held(_)) => bare::read_bare(frame, Request::Save),
+        (Kind::Round, Block::Held(_)) => bare::read_bare(frame, Request::Round),
     }
 }

@@ -1,13 +1,14 @@
 // Document 01, '06 search': the budget.
 ghost use Rattle.std.specs.Prelude.{◌≡◌};
-ghost use Rattle.frames.specs.Frames.{Framed};
-ghost use Rattle.kinds.specs.Lines.{search_verdict, search_request, concluded};
+ghost use Rattle.lines.specs.Asked.{judged};
+ghost use Rattle.kinds.specs.Lines.{search_verdict, search_request};
 
+use frames::frame::Frame;
 use lines::field::{Field, Rule};
 use lines::kind::Kind;
-use lines::request::{Line, Request, Search};
+use lines::request::{Request, Search};
 use lines::verdict;
-use refusals::{Refusal, Verdict};
+use refusals::Refusal;
 
 // The highest budget.
 const HIGHEST: u64 = 10000000;
@@ -20,14 +21,12 @@ const BUDGET: Field = Field {
 };
 
 // A search.
-pub fn read_search(line: &[u8], bytes: usize) -> Line
-    requires { Framed line.now bytes }
-    ensures { result ≡ concluded (search_verdict line.now) (search_request line.now) }
+#[tactic(auto, unfolding(crate::specs::Lines::search_verdict))]
+pub fn read_search(frame: Frame<'_>) -> Result<Request, Refusal>
+    ensures { result ≡ judged (search_verdict frame.entry.line.now) (search_request frame.entry.line.now) }
 {
-    match verdict::last_verdict(line, bytes, BUDGET) {
-        Verdict::Declined(r) => Line::Refused(r),
-        Verdict::Fine => Line::Asked(Request::Search(Search {
-            budget: BUDGET.number_in(line),
-        })),
-    }
+    verdict::last_verdict(frame, BUDGET)?;
+    Ok(Request::Search(Search {
+        budget: BUDGET.number_in(frame.line),
+    }))
 }

@@ -1,16 +1,16 @@
 // Document 01, '03 shift': lifts and moves, as many as the study asks.
 ghost use Rattle.std.specs.Prelude.{◌≡◌};
-ghost use Rattle.tables.specs.WellFormed.{Study};
-ghost use Rattle.frames.specs.Frames.{Framed};
 ghost use Rattle.lines.specs.declared.kind.Kind.TheVariants as kind;
-ghost use Rattle.kinds.specs.Lines.{fields_line};
+ghost use Rattle.kinds.specs.Lines.{fields_asked};
 
+use frames::frame::Frame;
 use lines::field::{Field, Rule};
 use lines::kind::Kind;
-use lines::request::{FieldRun, Line, Request, Shift};
+use lines::request::{FieldRun, Request, Shift};
 use lines::verdict;
-use refusals::{Refusal, Verdict};
+use refusals::Refusal;
 use tables::block;
+use tables::held_study::HeldStudy;
 
 // How far a lift or a move is from 0 at most, in parts.
 const HIGHEST: u64 = 1000000000000;
@@ -23,24 +23,22 @@ const LIFT: Field = Field {
 };
 
 // A shift.
-pub fn read_shift(line: &[u8], bytes: usize, block: &[i64]) -> Line
-    requires { Framed line.now bytes × Study block.now }
-    ensures { result ≡ fields_line kind.Shift line.now block.now }
+#[tactic(auto, using(tables::proofs::Counting::move_count_most, tables::proofs::Study::trains_range), unfolding(crate::specs::Lines::shift_verdict))]
+pub fn read_shift(frame: Frame<'_>, study: HeldStudy<'_>) -> Result<Request, Refusal>
+    ensures { result ≡ fields_asked kind.Shift frame.entry.line.now study.entry.numbers.now }
 {
-    let n = block::trains(block);
-    let count = counts::move_count(block);
+    let n = block::trains(study.numbers);
+    let count = counts::move_count(study);
     let first = LIFT.further(n);
-    match verdict::runs_verdict(line, bytes, LIFT, n, first, count) {
-        Verdict::Declined(r) => Line::Refused(r),
-        Verdict::Fine => Line::Asked(Request::Shift(Shift {
-            lifts: FieldRun {
-                at: LIFT.at,
-                count: n,
-            },
-            moves: FieldRun {
-                at: first.at,
-                count,
-            },
-        })),
-    }
+    verdict::runs_verdict(frame, LIFT, n, first, count)?;
+    Ok(Request::Shift(Shift {
+        lifts: FieldRun {
+            at: LIFT.at,
+            count: n,
+        },
+        moves: FieldRun {
+            at: first.at,
+            count,
+        },
+    }))
 }

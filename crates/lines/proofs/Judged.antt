@@ -10,8 +10,7 @@ use lib.IntN.{nat_abs}
 use borrow.Author.Tests.{leb-true, eqb-true}
 use Rattle.theory.proofs.Range.{both_true}
 use Rattle.refusals.specs.declared.Refusal.TheVariants.{Fields}
-use Rattle.refusals.specs.declared.Verdict.TheVariants.{Fine}
-use Rattle.refusals.specs.Verdicts.{then, unless}
+use Rattle.refusals.specs.Verdicts.{Fine, then, unless}
 use Rattle.refusals.proofs.Verdicts.{then_fine, unless_fine, first_fine}
 use Rattle.frames.specs.Digits.{bytes}
 use Rattle.lines.specs.declared.field.Rule.{Rule}
@@ -23,9 +22,9 @@ use Rattle.lines.specs.Verdicts.{obeys, takes_any, field_verdict, run_verdict, e
 -- a rule that takes any number is obeyed
 pub any_obeyed : (rule : Rule) (width v : ℕ) → takes_any rule ≡ true → obeys rule width v ≡ true
 any_obeyed Any width v e = refl
-any_obeyed (Between low high) width v e = let z : ◌≡◌ {A = ℕ} 0 1 = cc in absurd (omega arith)
-any_obeyed (Around limit) width v e = let z : ◌≡◌ {A = ℕ} 0 1 = cc in absurd (omega arith)
-any_obeyed Priced width v e = let z : ◌≡◌ {A = ℕ} 0 1 = cc in absurd (omega arith)
+any_obeyed (Between low high) width v e = cc
+any_obeyed (Around limit) width v e = cc
+any_obeyed Priced width v e = cc
 
 -- a field is wholly there, and its number is within its rule
 pub record Read (l : List ℕ) (f : Field) : Type 0 where

@@ -5,14 +5,15 @@ use Prim.Native.Nat.{ℕ, ◌<◌}
 use native.Mathlib.Omega.{arith}
 use lib.Dec.{eqb}
 use borrow.Author.Tests.{eqb-true}
+use Rattle.std.specs.Prelude.{Result, Ok, Err}
+use Rattle.refusals.specs.declared.Refusal.{Refusal}
+use Rattle.refusals.specs.declared.Refusal.TheVariants.{NoKind}
 use Rattle.lines.specs.declared.kind.Kind.{Kind}
 use Rattle.lines.specs.declared.kind.Kind.TheVariants.{Load, Add, Shift, Tighten, Certify, Search, Save, Round, Clauses}
-use Rattle.lines.specs.declared.kind.NewKind.{NewKind}
-use Rattle.lines.specs.declared.kind.NewKind.TheVariants.{Known, NoSuch}
 use Rattle.lines.specs.Kinds.{kind_number, kind_if, new_kind}
 
 -- the kind of a kind's number is that kind
-pub number_kind : (k : Kind) → new_kind (kind_number k) ≡ Known k
+pub number_kind : (k : Kind) → new_kind (kind_number k) ≡ Ok k
 unfolding new_kind
 number_kind Load = refl
 number_kind Add = refl
@@ -26,18 +27,18 @@ number_kind Clauses = refl
 
 -- one kind's number, or another's
 module _ (n : ℕ) (k : Kind) where
-  kind_if_lem : (j : Kind) (other : NewKind) → (other ≡ Known k → n ≡ kind_number k) → kind_if j n other ≡ Known k → n ≡ kind_number k
+  kind_if_lem : (j : Kind) (other : Result Kind Refusal) → (other ≡ Ok k → n ≡ kind_number k) → kind_if j n other ≡ Ok k → n ≡ kind_number k
   kind_if_lem j other f e = go (eqb n (kind_number j)) refl e
     where
-      go : (t : Bool) → eqb n (kind_number j) ≡ t → cond t (Known j) other ≡ Known k → n ≡ kind_number k
+      go : (t : Bool) → eqb n (kind_number j) ≡ t → cond t (Ok j) other ≡ Ok k → n ≡ kind_number k
       go true p e = let same : j ≡ k = cc in eqb-true n (kind_number j) p ∙ ap kind_number same
       go false p e = f e
 
   -- the number of a number's kind is that number
-  pub kind_number_lem : new_kind n ≡ Known k → n ≡ kind_number k
+  pub kind_number_lem : new_kind n ≡ Ok k → n ≡ kind_number k
   unfolding new_kind
   kind_number_lem =
-      kind_if_lem Load _ (kind_if_lem Add _ (kind_if_lem Shift _ (kind_if_lem Tighten _ (kind_if_lem Certify _ (kind_if_lem Search _ (kind_if_lem Save _ (kind_if_lem Round _ (kind_if_lem Clauses NoSuch (λ e. let z : ◌≡◌ {A = ℕ} 0 1 = cc in absurd (omega arith))))))))))
+      kind_if_lem Load _ (kind_if_lem Add _ (kind_if_lem Shift _ (kind_if_lem Tighten _ (kind_if_lem Certify _ (kind_if_lem Search _ (kind_if_lem Save _ (kind_if_lem Round _ (kind_if_lem Clauses (Err NoKind) (λ e. cc)))))))))
 
 -- so low that the reply to a line of this kind, whose first byte is 128 higher, is no refusal
 pub number_low : (k : Kind) → kind_number k < 127

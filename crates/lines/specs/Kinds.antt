@@ -1,9 +1,9 @@
 -- Document 01, 'Lines': the kinds of lines, their numbers, and which of them need a loaded study.
-use Rattle.std.specs.Prelude.{Bool, true, false, cond, ℕ, eqb}
+use Rattle.std.specs.Prelude.{Bool, true, false, cond, ℕ, eqb, Result, Ok, Err}
+use Rattle.refusals.specs.declared.Refusal.{Refusal}
+use Rattle.refusals.specs.declared.Refusal.TheVariants.{NoKind}
 use Rattle.lines.specs.declared.kind.Kind.{Kind}
 use Rattle.lines.specs.declared.kind.Kind.TheVariants as kind
-use Rattle.lines.specs.declared.kind.NewKind.{NewKind}
-use Rattle.lines.specs.declared.kind.NewKind.TheVariants.{Known, NoSuch}
 use Rattle.lines.specs.declared.request.Request.{Request}
 use Rattle.lines.specs.declared.request.Request.TheVariants.{Load, Add, Shift, Tighten, Certify, Search, Save, Round, Clauses}
 
@@ -20,11 +20,11 @@ kind_number kind.Round = 8
 kind_number kind.Clauses = 9
 
 -- this kind where the number is its own
-abbrev pub kind_if : Kind → ℕ → NewKind → NewKind
-kind_if k n other = cond (eqb n (kind_number k)) (Known k) other
+abbrev pub kind_if : Kind → ℕ → Result Kind Refusal → Result Kind Refusal
+kind_if k n other = cond (eqb n (kind_number k)) (Ok k) other
 
--- 'The first byte is the kind': the kind of this number, if there is one
-unfoldable pub new_kind : ℕ → NewKind
+-- 'The first byte is the kind': the kind of this number, or 3 where there is none
+unfoldable pub new_kind : ℕ → Result Kind Refusal
 new_kind n =
     kind_if kind.Load n
     (kind_if kind.Add n
@@ -34,7 +34,7 @@ new_kind n =
     (kind_if kind.Search n
     (kind_if kind.Save n
     (kind_if kind.Round n
-    (kind_if kind.Clauses n NoSuch))))))))
+    (kind_if kind.Clauses n (Err NoKind)))))))))
 
 -- 4: 'kinds 02-06 on a fresh block', 07 and 08; 09 loads
 abbrev pub needs_study : Kind → Bool

@@ -3,3 +3,4 @@ pub mod Kinds
 pub mod Layout
 pub mod Verdicts
 pub mod Text
+pub mod Asked

@@ -1,8 +1,7 @@
 -- Document 01, 'What is declined': the first reason to decline a line, by its fields: 'Fields from left to right, each judged as soon as it is read', bytes left over last.
 use Rattle.std.specs.Prelude.{Bool, true, false, ◌&&◌, List, ℕ, leb, eqb, nat_abs}
 use Rattle.refusals.specs.declared.Refusal.TheVariants.{Fields}
-use Rattle.refusals.specs.declared.Verdict.{Verdict}
-use Rattle.refusals.specs.Verdicts.{then, first_of, unless}
+use Rattle.refusals.specs.Verdicts.{Verdict, then, first_of, unless}
 use Rattle.tables.specs.Numbers.{is_cost}
 use Rattle.frames.specs.Digits.{bytes}
 use Rattle.frames.specs.Fields.{signed}

@@ -51,13 +51,9 @@ impl Field {
         requires { (self.at < 2 ^ 32) × (self.width ≤ max_width) × (k < 2 ^ 32) }
         ensures { result ≡ further self k }
     {
-        let rule = self.rule;
-        let refusal = self.refusal;
         Field {
             at: self.at + self.width * k,
-            width: self.width,
-            rule,
-            refusal,
+            ..self
         }
     }
 
@@ -66,12 +62,9 @@ impl Field {
         requires { 1 ≤ count }
         ensures { result ≡ below self count }
     {
-        let refusal = self.refusal;
         Field {
-            at: self.at,
-            width: self.width,
             rule: Rule::Between(0, (count - 1) as u64),
-            refusal,
+            ..self
         }
     }
 }

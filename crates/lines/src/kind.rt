@@ -1,8 +1,10 @@
 // Document 01, 'Lines': 'The first byte is the kind.'
 ghost use Rattle.std.specs.Prelude.{◌≡◌};
-ghost use Rattle.lines.specs.Kinds.{kind_number, new_kind, needs_study};
+ghost use Rattle.lines.specs.Kinds.{needs_study};
 
-#[derive(Clone, Copy)]
+use refusals::Refusal;
+
+#[derive(Clone, Copy, PartialEq, Eq)]
 pub enum Kind {
     Load,
     Add,
@@ -15,41 +17,53 @@ pub enum Kind {
     Clauses,
 }
 
-// What the constructor of a kind answers.
-#[derive(Clone, Copy)]
-pub enum NewKind {
-    Known(Kind),
-    // There is no kind of this number.
-    NoSuch,
-}
-
 impl Kind {
     // How many bytes a kind has.
     pub const WIDTH: usize = 1;
 
-    // The kind of this number.
-    pub fn new(number: u64) -> NewKind
-        ensures { result ≡ new_kind number }
+    // Whether a line of this kind is declined on a fresh block.
+    pub fn needs_study(self) -> bool
+        ensures { result ≡ needs_study self }
     {
+        !matches!(self, Kind::Load | Kind::Clauses)
+    }
+}
+
+// The kind of a number.
+impl TryFrom<u64> for Kind {
+    type Error = Refusal;
+
+    ghost use Rattle.std.specs.Prelude.{◌≡◌};
+    ghost use Rattle.lines.specs.Kinds.{new_kind};
+
+    ghost try_from_gives = { λ n r. r ≡ new_kind n };
+
+    #[tactic(auto, unfolding(crate::specs::Kinds::new_kind))]
+    fn try_from(number: u64) -> Result<Kind, Refusal> {
         match number {
-            1 => NewKind::Known(Kind::Load),
-            2 => NewKind::Known(Kind::Add),
-            3 => NewKind::Known(Kind::Shift),
-            4 => NewKind::Known(Kind::Tighten),
-            5 => NewKind::Known(Kind::Certify),
-            6 => NewKind::Known(Kind::Search),
-            7 => NewKind::Known(Kind::Save),
-            8 => NewKind::Known(Kind::Round),
-            9 => NewKind::Known(Kind::Clauses),
-            _ => NewKind::NoSuch,
+            1 => Ok(Kind::Load),
+            2 => Ok(Kind::Add),
+            3 => Ok(Kind::Shift),
+            4 => Ok(Kind::Tighten),
+            5 => Ok(Kind::Certify),
+            6 => Ok(Kind::Search),
+            7 => Ok(Kind::Save),
+            8 => Ok(Kind::Round),
+            9 => Ok(Kind::Clauses),
+            _ => Err(Refusal::NoKind),
         }
     }
+}
 
-    // The number of this kind.
-    pub fn number(self) -> u64
-        ensures { result ≡ kind_number self }
-    {
-        match self {
+// The number of a kind.
+impl From<Kind> for u64 {
+    ghost use Rattle.std.specs.Prelude.{◌≡◌};
+    ghost use Rattle.lines.specs.Kinds.{kind_number};
+
+    ghost from_gives = { λ k n. n ≡ kind_number k };
+
+    fn from(kind: Kind) -> u64 {
+        match kind {
             Kind::Load => 1,
             Kind::Add => 2,
             Kind::Shift => 3,
@@ -59,23 +73,6 @@ impl Kind {
             Kind::Save => 7,
             Kind::Round => 8,
             Kind::Clauses => 9,
-        }
-    }
-
-    // Whether a line of this kind is declined on a fresh block.
-    pub fn needs_study(self) -> bool
-        ensures { result ≡ needs_study self }
-    {
-        match self {
-            Kind::Load => false,
-            Kind::Add => true,
-            Kind::Shift => true,
-            Kind::Tighten => true,
-            Kind::Certify => true,
-            Kind::Search => true,
-            Kind::Save => true,
-            Kind::Round => true,
-            Kind::Clauses => false,
         }
     }
 }

@@ -101,8 +101,23 @@ pub enum Request {
     Clauses(Clauses),
 }
 
+// What a line asks, or why it is declined: an enum of its own and no Result, as document 01's Forms ask.
 #[derive(Clone, Copy)]
 pub enum Line {
     Asked(Request),
     Refused(Refusal),
+}
+
+impl From<Result<Request, Refusal>> for Line {
+    ghost use Rattle.std.specs.Prelude.{◌≡◌};
+    ghost use Rattle.lines.specs.Asked.{line_from};
+
+    ghost from_gives = { λ r l. l ≡ line_from r };
+
+    fn from(asked: Result<Request, Refusal>) -> Line {
+        match asked {
+            Ok(request) => Line::Asked(request),
+            Err(refusal) => Line::Refused(refusal),
+        }
+    }
 }

@@ -19,7 +19,8 @@ use Rattle.theory.proofs.Sum.{sum_cong, sum_const, row_part}
 use Rattle.theory.proofs.Lists.{list_length, list_nth, list_cong, list_is, list_part, list_all}
 use Rattle.theory.proofs.Joined.{joined-all, joined_length, joined-nth, joined_is}
 use Rattle.tables.specs.Block.{block_length, max_trains, max_choices, max_pairs, max_cost, trains_place, scale_place, pairs_place, sizes_from, firsts_from, seconds_from, size_place, first_place, second_place, loaded_choices_from, loaded_entries_from, entries_of_pair, loaded_choice_place, loaded_entry_place, at, nat, figure, trains, scale, pairs, size, first, second, loaded_choice, loaded_entry}
-use Rattle.tables.specs.WellFormed.{Limits, from_to, cost_to, is_open, used_if, choice_used, entry_used, limits_at, before, follows, pair_right, Study}
+use Rattle.tables.specs.declared.place_limits.Limits.{Limits}
+use Rattle.tables.specs.WellFormed.{from_to, cost_to, is_open, used_if, choice_used, entry_used, limits_at, before, follows, pair_right, Study}
 use Rattle.tables.specs.Plans.{AlikeShapes, shape_of}
 use Rattle.tables.specs.Counts.{rows_of, columns_of, pair_entries, choices_before, choice_count, entries_before, entry_count}
 use Rattle.tables.specs.Numbers.{Numbers, numbers, numbers_shape, numbers_costs, choice_given, entry_given, forbidden_cost, is_cost, priced, InRange}

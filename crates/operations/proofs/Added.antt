@@ -13,7 +13,7 @@ use borrow.Author.Tests.{lt-ltb, le-ltb}
 use Rattle.theory.specs.Sum.{update}
 use Rattle.theory.proofs.Sum.{sum_cong, sum_one, update_same, update_other}
 use Rattle.refusals.specs.declared.Refusal.TheVariants.{CostAbove, PartsOutside}
-use Rattle.refusals.specs.declared.Verdict.TheVariants.{Fine, Declined}
+use Rattle.refusals.specs.Verdicts.{Fine, Declined}
 use Rattle.tables.specs.Block.{max_trains, max_choices, max_cost, max_parts, constant_place, loaded_choices_from, held_choices_from, choice_place, loaded_choice_place, held_choice_place, loaded_entry_place, held_entry_place, at, figure, trains, scale, size, loaded_choice, held_choice, loaded_entry, held_entry}
 use Rattle.tables.specs.WellFormed.{cost_to, is_open, used_if, choice_used, limits_at, Study}
 use Rattle.tables.specs.Plans.{Shape, Costs, IsPlan, Open, choice_total, pair_total, total, shape_of, loaded_costs, held_costs, loaded_total, held_total}

@@ -1,4 +1,5 @@
 -- The laws of the crate, which callers cite: one file for each idea.
+pub mod Grown
 pub mod LoadTurns
 pub mod LoadRuns
 pub mod Loaded

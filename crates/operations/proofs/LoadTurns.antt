@@ -1,21 +1,28 @@
 -- The turns of the loops of load.rt, what its calls say together, and what they ask.
-use mathlib.Core.Path.{◌≡◌, ap, ◌∙◌}
-use mathlib.Core.List.{List, [], ◌∷◌, ◌++◌}
-use Prim.Native.Nat.{ℕ, ◌+◌, ◌*◌, ◌<◌, ◌≤◌}
-use native.Mathlib.Numerals.{add-one}
+use mathlib.Core.Path.{◌≡◌, refl, ap, ◌∙◌}
+use mathlib.Core.List.{List}
+use mathlib.Core.Logic.{dite}
+use Prim.Native.Nat.{ℕ, zero, suc, ◌+◌, ◌*◌, ◌-◌, ◌<◌, ◌≤◌}
+use native.Mathlib.Decide.{dec_lt}
+use native.Mathlib.Nat.{zero-add, mul-le-mul}
 use native.Mathlib.Omega.{arith}
 use lib.IntN.{ℤ, pos, negsuc}
-use lib.ListN.{length, set, take, replicate, replicate-append-replicate}
-use lib.Seq.{take-suc-set}
+use lib.ListN.{length, set, take, replicate, drop, get_or, length-drop, get_or-map}
+use lib.Seq.{length-take-le, get_or-take, get_or-drop}
+use Rattle.std.specs.Prelude.{map}
+use Rattle.std.proofs.lemmas.List.{get_or_past, length-take}
+use Rattle.theory.specs.Fold.{iter}
+use Rattle.theory.proofs.Sum.{sum_most}
 use Rattle.theory.specs.Lists.{nth}
-use Rattle.units.specs.Units.{Sound, the_scale}
-use Rattle.tables.specs.Block.{trains_place, scale_place, pairs_place, size_place, first_place, second_place, loaded_choice_place, held_choice_place, loaded_entry_place, held_entry_place}
+use Rattle.units.specs.Units.{Sound}
+use Rattle.tables.specs.Block.{max_trains, max_choices, max_pairs, entries_of_pair, trains_place, scale_place, pairs_place, size_place, first_place, second_place, loaded_choice_place, held_choice_place, loaded_entry_place, held_entry_place}
 use Rattle.tables.specs.WellFormed.{fresh_block}
+use Rattle.tables.specs.declared.block.Pair.{Pair}
 use Rattle.tables.specs.Plans.{Shape}
-use Rattle.tables.specs.Counts.{rows_of, columns_of, choices_before, entries_before}
-use Rattle.tables.specs.Numbers.{Numbers, InRange, numbers_shape, forbidden_cost}
+use Rattle.tables.specs.Counts.{rows_of, columns_of, pair_entries, choices_before, entries_before}
+use Rattle.tables.specs.Numbers.{Numbers, InRange, numbers_shape, forbidden_cost, is_cost}
 use Rattle.tables.proofs.Prices.{forbids, permitted, priced_is}
-use Rattle.operations.specs.Load.{head_loaded, sizes_loaded, pairs_loaded, run_loaded, choices_loaded, pair_loaded, entries_loaded, loaded_block, cost_loaded, SizesIn, PairsIn}
+use Rattle.operations.specs.Load.{head_loaded, sizes_loaded, pairs_loaded, run_loaded, choices_loaded, pair_loaded, entries_loaded, loaded_block, cost_loaded, SizesIn, CostsIn}
 
 -- ---- the turns of the loops
 
@@ -39,11 +46,6 @@ entries_turn s t entries k = pair_loaded s entries (entries_before t k) (rows_of
 
 -- ---- a turn of the code, as its calls say it
 
-pub cleared : (b : List ℤ) (p : ℕ) → p < length b → take p b ≡ replicate p (pos 0) → take (p + 1) (set b p (pos 0)) ≡ replicate (p + 1) (pos 0)
-cleared b p h e =
-    ap (λ (n : ℕ). take n (set b p (pos 0))) (add-one p) ∙ take-suc-set b p (pos 0) h ∙ ap (λ (l : List ℤ). l ++ (pos 0 ∷ [])) e
-    ∙ replicate-append-replicate p 1 (pos 0)
-
 -- a cost, of a permitted entry and of a forbidden one
 pub cost_by : (s c p q : ℕ) (b : List ℤ) {d e : List ℤ} {x : ℕ} → (c ≡ forbidden_cost → ⊥)
     → d ≡ set b p (pos c) → x ≡ s * c → e ≡ set d q (pos x) → e ≡ cost_loaded s c p q b
@@ -58,14 +60,40 @@ pub head_by : (n s m size : ℕ) {c d e f : List ℤ} → c ≡ replicate size (
     → f ≡ head_loaded n s m (replicate size (pos 0))
 head_by n s m size p q r t = cc
 
--- a run whose starts are known by equations
-pub run_at : (s : ℕ) (costs : List ℕ) (count : ℕ) {start start' loaded loaded' held held' : ℕ} {b b' c : List ℤ}
-    → c ≡ run_loaded s costs start loaded held count b → start ≡ start' → loaded ≡ loaded' → held ≡ held' → b ≡ b' → c ≡ run_loaded s costs start' loaded' held' count b'
-run_at s costs count e p q r t = e ∙ (λ i. run_loaded s costs (p i) (q i) (r i) count (t i))
+-- turns that do the same
+turns_same : {A : Type 0} (n : ℕ) (f g : ℕ → A → A) (a : A) → ((i : ℕ) (x : A) → i < n → f i x ≡ g i x) → iter n f a ≡ iter n g a
+unfolding iter
+turns_same zero f g a e = refl
+turns_same (suc n) f g a e = e n (iter n f a) (omega arith) ∙ ap (g n) (turns_same n f g a (λ i x h. e i x (omega arith)))
 
-pub pair_at_lem : (s : ℕ) (entries : List ℕ) (rows columns k : ℕ) {start start' : ℕ} {b b' c : List ℤ}
-    → c ≡ pair_loaded s entries start rows columns k b → start ≡ start' → b ≡ b' → c ≡ pair_loaded s entries start' rows columns k b'
-pair_at_lem s entries rows columns k e p q = e ∙ (λ i. pair_loaded s entries (p i) rows columns k (q i))
+-- a run that is lent as a part of the costs
+run_part : (s : ℕ) (costs : List ℕ) (start loaded held count : ℕ) (b : List ℤ)
+    → run_loaded s (take count (drop start costs)) 0 loaded held count b ≡ run_loaded s costs start loaded held count b
+run_part s costs start loaded held count b =
+    turns_same count (run_turn s (take count (drop start costs)) 0 loaded held) (run_turn s costs start loaded held) b
+    (λ a x h. ap (λ (c : ℕ). cost_loaded s c (loaded + a) (held + a) x)
+    (ap (nth (take count (drop start costs))) (zero-add a) ∙ get_or-take count (drop start costs) a 0 h ∙ get_or-drop start costs a 0))
+
+pub run_at : (s : ℕ) (costs : List ℕ) (start loaded held count : ℕ) (b : List ℤ) {part : List ℕ} {loaded' held' : ℕ} {c : List ℤ}
+    → start + count ≤ length costs → part ≡ take count (drop start costs) → loaded' ≡ loaded → held' ≡ held
+    → c ≡ run_loaded s part 0 loaded' held' (length part) b → c ≡ run_loaded s costs start loaded held count b
+run_at s costs start loaded held count b h e p q r =
+    let f : length (take count (drop start costs)) ≡ count = length-take-le count (drop start costs) (omega (arith, length-drop start costs)) in
+    r ∙ rw (e, p, q, f) (run_part s costs start loaded held count b)
+
+pub part_is : (start count : ℕ) {end : ℕ} {l m : List ℕ} → end ≡ start + count → l ≡ m → take (end - start) (drop start l) ≡ take count (drop start m)
+part_is start count {end} e f = let n : end - start ≡ count = omega arith in (λ i. take (n i) (drop start (f i)))
+
+-- costs in a part of them
+pub costs_part : {costs : List ℕ} → CostsIn costs → (n start : ℕ) → CostsIn (take n (drop start costs))
+unfolding is_cost
+costs_part {costs} c n start =
+    record {
+      right = λ o.
+          dite (dec_lt o n)
+          (λ (h : o < n). rw (get_or-take n (drop start costs) o 0 h, get_or-drop start costs o 0) (c.right (start + o)))
+          (λ (h : o < n → ⊥). rw (get_or_past (take n (drop start costs)) o 0 (omega (arith, length-take n (drop start costs)))) refl);
+    }
 
 pub loaded_by : (l : Numbers) {c d e f g : List ℤ}
     → c ≡ head_loaded (length l.sizes) l.scale (length l.firsts) fresh_block
@@ -77,11 +105,28 @@ loaded_by l p q r t u = rw (u, t, r, q, p)
 -- ---- what the private functions ask
 
 module _ {l : Numbers} (r : InRange l) where
-  pub in_scale : Sound (the_scale l.scale)
+  pub in_scale : Sound l.scale
   in_scale = record { low = r.scale.0; high = r.scale.1 }
 
   pub in_sizes : SizesIn l.sizes
   in_sizes = record { few = r.trains.1; small = λ i h. (r.sizes i h).1 }
 
-  pub in_pairs : (n : ℕ) → length l.sizes ≤ n → PairsIn n l.firsts l.seconds
-  in_pairs n h = record { few = r.pairs.0; same = r.pairs.1; first = λ k q. omega (arith, r.below k q); second = λ k q. omega (arith, r.below k q) }
+  -- a pair has at most 8 rows and 8 columns
+  pub pair_lanes : (k : ℕ) → k < length l.firsts → (rows_of (numbers_shape l) k ≤ max_choices) × (columns_of (numbers_shape l) k ≤ max_choices)
+  pair_lanes k h = let b = r.below k h in ((r.sizes (nth l.firsts k) (omega arith)).1, (r.sizes (nth l.seconds k) b.1).1)
+
+  -- there are not more costs than places for them
+  pub choices_few : length l.choices ≤ max_trains * max_choices
+  choices_few = omega (arith, r.choices, r.trains, sum_most (length l.sizes) max_choices (nth l.sizes) (λ i h. (r.sizes i h).1))
+
+  pub entries_few : length l.entries ≤ max_pairs * entries_of_pair
+  entries_few =
+      omega (arith, r.entries, r.pairs, sum_most (length l.firsts) entries_of_pair (pair_entries (numbers_shape l)) (λ k h. let w = pair_lanes k h in mul-le-mul w.0 w.1))
+
+-- ---- the trains of a pair
+
+pub first_nth : (l : List Pair) (k : ℕ) → nth (map (λ p. p.first) l) k ≡ (get_or l k (record { first = 0; second = 0 })).first
+first_nth l k = get_or-map (λ (p : Pair). p.first) l k (record { first = 0; second = 0 })
+
+pub second_nth : (l : List Pair) (k : ℕ) → nth (map (λ p. p.second) l) k ≡ (get_or l k (record { first = 0; second = 0 })).second
+second_nth l k = get_or-map (λ (p : Pair). p.second) l k (record { first = 0; second = 0 })

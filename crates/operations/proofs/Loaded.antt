@@ -17,8 +17,9 @@ use Rattle.theory.specs.Lists.{nth}
 use Rattle.theory.proofs.Range.{both_true}
 use Rattle.theory.proofs.Sum.{sum_cong, sum-scale}
 use Rattle.units.specs.Units.{scale_min, scale_max}
+use Rattle.tables.specs.declared.place_limits.Limits.{Limits}
 use Rattle.tables.specs.Block.{block_length, max_trains, max_choices, max_pairs, max_cost, max_parts, trains_place, scale_place, pairs_place, constant_place, sizes_from, firsts_from, seconds_from, size_place, first_place, second_place, loaded_choices_from, held_choices_from, loaded_entries_from, held_entries_from, entries_of_pair, loaded_choice_place, held_choice_place, loaded_entry_place, held_entry_place, at, nat, figure, trains, scale, pairs, constant, size, first, second, loaded_choice, held_choice, loaded_entry, held_entry}
-use Rattle.tables.specs.WellFormed.{Limits, from_to, cost_to, within, is_open, mate, used_if, choice_used, entry_used, head_limits, limits_at, follows, pair_right, Study, fresh_block}
+use Rattle.tables.specs.WellFormed.{from_to, cost_to, within, is_open, mate, used_if, choice_used, entry_used, head_limits, limits_at, follows, pair_right, Study, fresh_block}
 use Rattle.tables.specs.Plans.{AlikeShapes, IsPlan, choice_total, pair_total, total, shape_of, loaded_costs, held_costs, loaded_total, held_total}
 use Rattle.tables.specs.Numbers.{Numbers, InRange, numbers_shape, numbers_costs, choice_given, entry_given, permits, priced}
 use Rattle.tables.specs.Counts.{rows_of, columns_of}
@@ -26,7 +27,7 @@ use Rattle.tables.proofs.Prices.{priced_open, priced-nat, priced_parts, priced-m
 use Rattle.tables.proofs.Limits.{within_pos, choice_used_lem, entry_used_lem, limits_head, limits-size, limits-first, limits-second, limits_loaded_choices, limits-held_choices, limits_loaded_entries, limits-held_entries}
 use Rattle.tables.proofs.Study.{figure_at, first-below-trains, second-below-trains}
 use Rattle.operations.specs.Load.{head_loaded, sizes_loaded, pairs_loaded, choices_loaded, loaded_block}
-use Rattle.operations.proofs.LoadTurns.{in_sizes}
+use Rattle.operations.proofs.LoadTurns.{in_sizes, pair_lanes}
 use Rattle.operations.proofs.LoadRuns.{Two, Priced, two_kept, sizes_length, sizes_kept, sizes_at, pairs-length, pairs-kept, pairs_two, choices_length, choices_kept, choices_two, entries_length, entries_kept, entries_two}
 
 -- ---- the head
@@ -151,15 +152,10 @@ module _ {l : Numbers} (r : InRange l) where
       two_kept (loaded_block l) (choices_two l.scale l.sizes l.choices (shaped l) (in_sizes r) shaped_length i a h q)
       (before_entries (loaded_choice_place i a) (omega arith)) (before_entries (held_choice_place i a) (omega arith))
 
-  -- a pair has at most 8 rows and 8 columns
-  pair_lanes : (k : ℕ) → k < length l.firsts → (rows_of (numbers_shape l) k ≤ max_choices) × (columns_of (numbers_shape l) k ≤ max_choices)
-  pair_lanes k h =
-      let b = r.below k h in ((r.sizes (nth l.firsts k) (omega arith)).1, (r.sizes (nth l.seconds k) b.1).1)
-
   pub at_entry : (k a c : ℕ) → k < length l.firsts → a < rows_of (numbers_shape l) k → c < columns_of (numbers_shape l) k
       → Priced l.scale (loaded_entry_place k a c) (held_entry_place k a c) (entry_given l k a c) (loaded_block l)
   unfolding loaded_block
-  at_entry = entries_two l.scale (numbers_shape l) l.entries (chosen l) chosen_length r.pairs.0 pair_lanes
+  at_entry = entries_two l.scale (numbers_shape l) l.entries (chosen l) chosen_length r.pairs.0 (pair_lanes r)
 
   -- ---- unused places
 

@@ -1,9 +1,7 @@
 -- Document 01, '02 add': 'H at that choice grows by the points, T by s × points'.
 use Rattle.std.specs.Prelude.{Bool, cond, List, ℕ, ◌+◌, ◌*◌, ltb, ℤ, pos, set}
 use Rattle.refusals.specs.declared.Refusal.TheVariants.{CostAbove, PartsOutside}
-use Rattle.refusals.specs.declared.Verdict.{Verdict}
-use Rattle.refusals.specs.declared.Verdict.TheVariants.{Fine, Declined}
-use Rattle.refusals.specs.Verdicts.{settled}
+use Rattle.refusals.specs.Verdicts.{Verdict, Fine, Declined, settled}
 use Rattle.tables.specs.Block.{max_cost, max_parts, loaded_choice_place, held_choice_place, at, scale, loaded_choice, held_choice}
 use Rattle.tables.specs.WellFormed.{is_open}
 

@@ -2,3 +2,4 @@
 pub mod Load
 pub mod Add
 pub mod Saved
+pub mod Given

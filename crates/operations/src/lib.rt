@@ -2,5 +2,6 @@
 #![tactic(auto)]
 
 pub mod add;
-mod held;
+pub mod given_study;
 pub mod load;
+pub mod load_numbers;

@@ -26,8 +26,8 @@ use Rattle.lines.specs.Layout.{pair_at}
 use Rattle.lines.specs.Verdicts.{field_verdict, runs_verdict, last_verdict}
 use Rattle.kinds.specs.Load.{pair_ordered, pair_verdict, head_verdict, rest_verdict, load_verdict}
 use Rattle.kinds.specs.Clauses.{clause_verdict, clause_run_verdict, clauses_verdict}
-use Rattle.kinds.specs.Lines.{add_verdict, shift_verdict, certify_verdict, search_verdict}
-use Rattle.reader.specs.Reading.{study_line, kind_line, line_of}
+use Rattle.kinds.specs.Lines.{add_verdict, shift_verdict, certify_verdict, search_verdict, study_line}
+use Rattle.reader.specs.Reading.{kind_line, line_of}
 
 -- ---- the two blocks
 

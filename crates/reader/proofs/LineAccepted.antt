@@ -5,36 +5,32 @@ use mathlib.Core.List.{List}
 use Prim.Native.Nat.{ℕ, ◌<◌, ◌^◌}
 use native.Mathlib.Omega.{arith}
 use lib.IntN.{ℤ}
+use Rattle.std.specs.Prelude.{Result, Ok, Err}
 use Rattle.theory.proofs.Sum.{part_inside}
 use Rattle.refusals.specs.declared.Refusal.{Refusal}
-use Rattle.refusals.specs.declared.Verdict.{Verdict}
-use Rattle.refusals.specs.declared.Verdict.TheVariants.{Fine, Declined}
+use Rattle.refusals.specs.Verdicts.{Verdict, Fine}
 use Rattle.tables.specs.Block.{trains, size}
 use Rattle.tables.specs.WellFormed.{is_fresh, Study}
 use Rattle.tables.proofs.Study.{trains_range, size_range}
-use Rattle.frames.specs.declared.frame.NewFrame.{NewFrame}
-use Rattle.frames.specs.declared.frame.NewFrame.TheVariants.{Within, Long, Broken}
 use Rattle.frames.specs.Digits.{bytes}
 use Rattle.frames.specs.Frames.{new_frame, Framed}
 use Rattle.frames.proofs.Bytes.{Whole, framed_whole, new_framed}
 use Rattle.frames.proofs.Widths.{field_below}
 use Rattle.lines.specs.declared.kind.Kind.{Kind}
 use Rattle.lines.specs.declared.kind.Kind.TheVariants.{Load, Add, Shift, Tighten, Certify, Search, Save, Round, Clauses}
-use Rattle.lines.specs.declared.kind.NewKind.{NewKind}
-use Rattle.lines.specs.declared.kind.NewKind.TheVariants.{Known, NoSuch}
 use Rattle.lines.specs.declared.request.Request.{Request}
 use Rattle.lines.specs.declared.request.Line.{Line}
 use Rattle.lines.specs.declared.request.Line.TheVariants.{Asked, Refused}
 use Rattle.lines.specs.Kinds.{new_kind, needs_study, request_kind}
 use Rattle.lines.specs.Layout.{kind_of, number_in, further, weight_width, weight_field, add_train, add_choice}
-use Rattle.kinds.specs.Lines.{concluded, kind_verdict, kind_request}
+use Rattle.kinds.specs.Lines.{concluded, kind_verdict, kind_request, study_line}
 use Rattle.kinds.proofs.Accepted.{FineAdd, FineCertify}
-use Rattle.reader.specs.Reading.{study_line, new_kind_line, kind_line, framed_line, line_of}
+use Rattle.reader.specs.Reading.{new_kind_line, kind_line, framed_line, line_of}
 
 -- a line that concludes with a request made it
 concluded_asked : (v : Verdict) (r q : Request) → concluded v r ≡ Asked q → (v ≡ Fine) × (r ≡ q)
-concluded_asked Fine r q e = (refl, cc)
-concluded_asked (Declined d) r q e = let z : ◌≡◌ {A = ℕ} 0 1 = cc in absurd (omega arith)
+concluded_asked (Ok tt) r q e = (refl, cc)
+concluded_asked (Err d) r q e = let z : ◌≡◌ {A = ℕ} 0 1 = cc in absurd (omega arith)
 
 refused_asked : {r : Refusal} {q : Request} → Refused r ≡ Asked q → ⊥
 refused_asked e = let z : ◌≡◌ {A = ℕ} 0 1 = cc in omega arith
@@ -49,13 +45,13 @@ module _ {P : Type 0} (z : Line) where
 pub record Accepted (l : List ℕ) (b : List ℤ) (q : Request) : Type 0 where
   pub framed : Framed l (bytes l)
   pub kind : Kind
-  pub known : new_kind (kind_of l) ≡ Known kind
+  pub known : new_kind (kind_of l) ≡ Ok kind
   pub fine : kind_verdict kind l b ≡ Fine
   pub made : kind_request kind l b ≡ q
   pub loaded : needs_study kind && is_fresh b ≡ false
 
 module _ (l : List ℕ) (b : List ℤ) (q : Request) where
-  study_accepted : Framed l (bytes l) → (k : Kind) → new_kind (kind_of l) ≡ Known k → study_line k l b ≡ Asked q → Accepted l b q
+  study_accepted : Framed l (bytes l) → (k : Kind) → new_kind (kind_of l) ≡ Ok k → study_line k l b ≡ Asked q → Accepted l b q
   unfolding study_line
   study_accepted w k p e =
       ways (Asked q) (needs_study k && is_fresh b) _ _ e (λ f. absurd (refused_asked f))
@@ -65,18 +61,17 @@ module _ (l : List ℕ) (b : List ℤ) (q : Request) where
   unfolding kind_line
   kind_accepted w e = go (new_kind (kind_of l)) refl e
     where
-      go : (n : NewKind) → new_kind (kind_of l) ≡ n → new_kind_line n l b ≡ Asked q → Accepted l b q
-      go (Known k) p e = study_accepted w k p e
-      go NoSuch p e = absurd (refused_asked e)
+      go : (n : Result Kind Refusal) → new_kind (kind_of l) ≡ n → new_kind_line n l b ≡ Asked q → Accepted l b q
+      go (Ok k) p e = study_accepted w k p e
+      go (Err r) p e = absurd (refused_asked e)
 
   pub line_accepted : line_of l b ≡ Asked q → Accepted l b q
   unfolding line_of
   line_accepted e = go (new_frame l) refl e
     where
-      go : (f : NewFrame) → new_frame l ≡ f → framed_line f l b ≡ Asked q → Accepted l b q
-      go Long p e = absurd (refused_asked e)
-      go Broken p e = absurd (refused_asked e)
-      go (Within f) p e = let w = new_framed l f p in kind_accepted (record { digits = w.digits; whole = refl; short = w.short }) e
+      go : (v : Verdict) → new_frame l ≡ v → framed_line v l b ≡ Asked q → Accepted l b q
+      go (Ok tt) p e = kind_accepted (new_framed l p) e
+      go (Err r) p e = absurd (refused_asked e)
 
 -- the request of each kind is of that kind
 pub request_kind_lem : (k : Kind) (l : List ℕ) (b : List ℤ) → request_kind (kind_request k l b) ≡ k

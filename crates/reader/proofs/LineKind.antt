@@ -3,7 +3,7 @@ use mathlib.Core.Path.{◌≡◌, sym, ap, ◌∙◌}
 use mathlib.Core.List.{List}
 use Prim.Native.Nat.{ℕ}
 use lib.IntN.{ℤ}
-use Rattle.lines.specs.declared.kind.NewKind.TheVariants.{Known}
+use Rattle.std.specs.Prelude.{Ok}
 use Rattle.lines.specs.declared.request.Request.{Request}
 use Rattle.lines.specs.declared.request.Line.TheVariants.{Asked}
 use Rattle.lines.specs.Kinds.{kind_number, new_kind, request_kind}
@@ -13,8 +13,11 @@ use Rattle.reader.specs.Reading.{line_of}
 use Rattle.reader.proofs.LineAccepted.{line_accepted, request_kind_lem}
 
 module _ (l : List ℕ) (b : List ℤ) (q : Request) (e : line_of l b ≡ Asked q) where
-  pub line_known : new_kind (kind_of l) ≡ Known (request_kind q)
-  line_known = let a = line_accepted l b q e in a.known ∙ ap Known (sym (request_kind_lem a.kind l b) ∙ ap request_kind a.made)
+  pub line_known : new_kind (kind_of l) ≡ Ok (request_kind q)
+  line_known =
+      let a = line_accepted l b q e in
+      let f : a.kind ≡ request_kind q = sym (request_kind_lem a.kind l b) ∙ ap request_kind a.made in
+      rw (← f) a.known
 
   -- an accepted line's first byte is its request's kind
   pub line_kind : kind_of l ≡ kind_number (request_kind q)

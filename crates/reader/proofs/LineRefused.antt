@@ -3,39 +3,35 @@
 use mathlib.Core.Path.{◌≡◌, refl, subst}
 use mathlib.Core.Bool.{Bool, true, false, cond, ◌&&◌, ◌||◌, not}
 use mathlib.Core.List.{List}
-use Prim.Native.Nat.{ℕ, zero, suc, ◌-◌}
-use lib.Dec.{leb, eqb}
+use Prim.Native.Nat.{ℕ, zero, suc}
+use lib.Dec.{leb, ltb, eqb}
 use lib.IntN.{ℤ}
+use lib.ListN.{length}
+use Rattle.std.specs.Prelude.{Result, Ok, Err}
 use Rattle.refusals.specs.declared.Refusal.{Refusal}
-use Rattle.refusals.specs.declared.Refusal.TheVariants.{Fields, Pair, Literal}
-use Rattle.refusals.specs.declared.Verdict.{Verdict}
-use Rattle.refusals.specs.declared.Verdict.TheVariants.{Fine, Declined}
+use Rattle.refusals.specs.declared.Refusal.TheVariants.{Characters, TooLong, Fields, Pair, Literal}
+use Rattle.refusals.specs.Verdicts.{Verdict, Fine, Declined, then, first_of, unless}
 use Rattle.refusals.specs.Refusals.{refusal_number}
-use Rattle.refusals.specs.Verdicts.{then, first_of, unless}
 use Rattle.tables.specs.Block.{trains, size}
 use Rattle.tables.specs.WellFormed.{is_fresh}
 use Rattle.tables.specs.Plans.{shape_of}
 use Rattle.tables.specs.Counts.{move_count, weight_count}
 use Rattle.clauses.specs.Clauses.{literals_right}
-use Rattle.frames.specs.declared.frame.NewFrame.{NewFrame}
-use Rattle.frames.specs.declared.frame.NewFrame.TheVariants.{Within, Long, Broken}
-use Rattle.frames.specs.Frames.{new_frame}
+use Rattle.frames.specs.Frames.{max_characters, framed, new_frame}
 use Rattle.frames.specs.Digits.{bytes}
 use Rattle.lines.specs.declared.kind.Kind.{Kind}
 use Rattle.lines.specs.declared.kind.Kind.TheVariants.{Load, Add, Shift, Tighten, Certify, Search, Save, Round, Clauses}
-use Rattle.lines.specs.declared.kind.NewKind.{NewKind}
-use Rattle.lines.specs.declared.kind.NewKind.TheVariants.{Known, NoSuch}
 use Rattle.lines.specs.declared.field.Field.{Field}
 use Rattle.lines.specs.declared.request.Request.{Request}
 use Rattle.lines.specs.declared.request.Line.{Line}
 use Rattle.lines.specs.declared.request.Line.TheVariants.{Asked, Refused}
-use Rattle.lines.specs.Kinds.{new_kind, needs_study}
+use Rattle.lines.specs.Kinds.{kind_number, kind_if, new_kind, needs_study}
 use Rattle.lines.specs.Layout.{kind_width, kind_of, number_in, further, trains_field, scale_field, size_field, pair_count_field, add_train, points_field, lift_field, move_field, full_weight_field, weight_field, budget_field, load_trains, load_pairs, choice_count, entry_count, pair_at, end_of, below, choice_field, entry_field, add_train_field, add_choice_field, clause_count_field, clause_count, clause_at, clause_weight_field, clause_first, clause_second}
 use Rattle.lines.specs.Verdicts.{obeys, field_verdict, run_verdict, end_verdict, runs_verdict, last_verdict}
 use Rattle.kinds.specs.Load.{pair_ordered, pair_verdict, head_verdict, rest_verdict, load_verdict}
 use Rattle.kinds.specs.Clauses.{clause_verdict, clause_run_verdict, clauses_verdict}
-use Rattle.kinds.specs.Lines.{add_verdict, shift_verdict, certify_verdict, search_verdict, concluded, kind_verdict}
-use Rattle.reader.specs.Reading.{study_line, new_kind_line, kind_line, framed_line, line_of}
+use Rattle.kinds.specs.Lines.{add_verdict, shift_verdict, certify_verdict, search_verdict, concluded, kind_verdict, study_line}
+use Rattle.reader.specs.Reading.{new_kind_line, kind_line, framed_line, line_of}
 
 -- 'Order: 17, 16, .. Then fields .. Then 10, 12 or 14': the numbers that reading a line gives are the others
 abbrev pub of_reading : ℕ → Bool
@@ -46,8 +42,8 @@ Own r = of_reading (refusal_number r) ≡ true
 
 -- a verdict that declines, if it does, under one of these
 abbrev OwnVerdict : Verdict → Type 0
-OwnVerdict Fine = Unit {0}
-OwnVerdict (Declined r) = Own r
+OwnVerdict (Ok _) = Unit {0}
+OwnVerdict (Err r) = Own r
 
 record Reads (v : Verdict) : Type 0 where
   own : OwnVerdict v
@@ -58,8 +54,8 @@ reads_then : {v w : Verdict} → Reads v → Reads w → Reads (then v w)
 reads_then {v} {w} p q = go v p
   where
     go : (u : Verdict) → Reads u → Reads (then u w)
-    go Fine _ = q
-    go (Declined r) o = o
+    go (Ok _) _ = q
+    go (Err r) o = o
 
 reads_unless : (t : Bool) (r : Refusal) → Own r → Reads (unless t r)
 reads_unless true r o = record { own = tt }
@@ -139,14 +135,39 @@ module _ (l : List ℕ) where
 
 -- ---- the line
 
+-- a kind, or 3
+abbrev OwnKind : Result Kind Refusal → Type 0
+OwnKind (Ok k) = Unit {0}
+OwnKind (Err r) = Own r
+
+own_kind_if : (k : Kind) (n : ℕ) (other : Result Kind Refusal) → OwnKind other → OwnKind (kind_if k n other)
+own_kind_if k n other o = go (eqb n (kind_number k))
+  where
+    go : (t : Bool) → OwnKind (cond t (Ok k) other)
+    go true = tt
+    go false = o
+
+own_new_kind : (n : ℕ) → OwnKind (new_kind n)
+unfolding new_kind
+own_new_kind n =
+    own_kind_if Load n _
+    (own_kind_if Add n _
+    (own_kind_if Shift n _
+    (own_kind_if Tighten n _
+    (own_kind_if Certify n _
+    (own_kind_if Search n _
+    (own_kind_if Save n _
+    (own_kind_if Round n _
+    (own_kind_if Clauses n _ refl))))))))
+
 -- a line that is declined, if it is, under one of these numbers
 abbrev OwnLine : Line → Type 0
 OwnLine (Asked q) = Unit {0}
 OwnLine (Refused r) = Own r
 
 own_concluded : (v : Verdict) (q : Request) → Reads v → OwnLine (concluded v q)
-own_concluded Fine q p = tt
-own_concluded (Declined r) q p = p.own
+own_concluded (Ok _) q p = tt
+own_concluded (Err r) q p = p.own
 
 own_cond : (t : Bool) (x y : Line) → OwnLine x → OwnLine y → OwnLine (cond t x y)
 own_cond true x y p q = p
@@ -168,22 +189,30 @@ module _ (l : List ℕ) (b : List ℤ) where
   unfolding study_line
   own_study k = own_cond (needs_study k && is_fresh b) _ _ refl (own_concluded (kind_verdict k l b) _ (reads_kind k))
 
+  -- 2 and 1
+  own_frame : OwnVerdict (new_frame l)
+  own_frame = go (ltb max_characters (length l)) (framed l)
+    where
+      go : (t u : Bool) → OwnVerdict (cond t (Declined TooLong) (cond u Fine (Declined Characters)))
+      go true u = refl
+      go false true = tt
+      go false false = refl
+
   own_kind : OwnLine (kind_line l b)
   unfolding kind_line
-  own_kind = go (new_kind (kind_of l))
+  own_kind = go (new_kind (kind_of l)) (own_new_kind (kind_of l))
     where
-      go : (n : NewKind) → OwnLine (new_kind_line n l b)
-      go (Known k) = own_study k
-      go NoSuch = refl
+      go : (n : Result Kind Refusal) → OwnKind n → OwnLine (new_kind_line n l b)
+      go (Ok k) o = own_study k
+      go (Err r) o = o
 
   own_line : OwnLine (line_of l b)
   unfolding line_of
-  own_line = go (new_frame l)
+  own_line = go (new_frame l) own_frame
     where
-      go : (f : NewFrame) → OwnLine (framed_line f l b)
-      go Long = refl
-      go Broken = refl
-      go (Within f) = own_kind
+      go : (v : Verdict) → OwnVerdict v → OwnLine (framed_line v l b)
+      go (Ok _) o = own_kind
+      go (Err r) o = o
 
   -- the reader declines a line under none of 10, 12, 14 and 16
   pub line_refused : (r : Refusal) → line_of l b ≡ Refused r → of_reading (refusal_number r) ≡ true

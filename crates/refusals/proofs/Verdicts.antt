@@ -8,28 +8,27 @@ use native.Mathlib.Omega.{arith}
 use borrow.Author.Tests.{not-true, not-false}
 use Rattle.theory.proofs.Range.{below_suc}
 use Rattle.refusals.specs.declared.Refusal.{Refusal}
-use Rattle.refusals.specs.declared.Verdict.{Verdict}
-use Rattle.refusals.specs.declared.Verdict.TheVariants.{Fine, Declined}
-use Rattle.refusals.specs.Verdicts.{then, is_fine, first_of, unless}
+use Rattle.std.specs.Prelude.{Ok, Err}
+use Rattle.refusals.specs.Verdicts.{Verdict, Fine, then, is_fine, first_of, unless}
 
 pub is_fine_lem : (v : Verdict) → is_fine v ≡ true → v ≡ Fine
-is_fine_lem Fine e = refl
-is_fine_lem (Declined r) e = let z : ◌≡◌ {A = ℕ} 0 1 = cc in absurd (omega arith)
+is_fine_lem (Ok tt) e = refl
+is_fine_lem (Err r) e = cc
 
 pub then_declined : (v w : Verdict) → is_fine v ≡ false → then v w ≡ v
-then_declined Fine w e = let z : ◌≡◌ {A = ℕ} 0 1 = cc in absurd (omega arith)
-then_declined (Declined r) w e = refl
+then_declined (Ok _) w e = cc
+then_declined (Err r) w e = refl
 
 pub then_fine : (v w : Verdict) → then v w ≡ Fine → (v ≡ Fine) × (w ≡ Fine)
-then_fine Fine w e = (refl, e)
-then_fine (Declined r) w e = let z : ◌≡◌ {A = ℕ} 0 1 = cc in absurd (omega arith)
+then_fine (Ok tt) w e = (refl, e)
+then_fine (Err r) w e = cc
 
 pub then_both : (v w : Verdict) → v ≡ Fine → w ≡ Fine → then v w ≡ Fine
 then_both v w e f = rw (e, f)
 
 pub unless_fine : (t : Bool) (r : Refusal) → unless t r ≡ Fine → t ≡ true
 unless_fine true r e = refl
-unless_fine false r e = let z : ◌≡◌ {A = ℕ} 0 1 = cc in absurd (omega arith)
+unless_fine false r e = cc
 
 -- what the code learns of a verdict v from a call's answer r, where it asks whether r is fine
 pub went_on : {t : Bool} (r v : Verdict) → t ≡ is_fine r → r ≡ v → not t ≡ false → v ≡ Fine
@@ -56,6 +55,10 @@ module _ (f : ℕ → Verdict) where
       (λ (q : k ≡ n). rw (← q, e))
       (λ (q : k < n). let d = first-declined n k q e g in rw d (then_declined (f k) (f n) g))
       (below_suc k n h)
+
+  -- a loop that ends with the reason of its turn
+  pub first_err : (n k : ℕ) {r : Refusal} → k < n → first_of k f ≡ Fine → f k ≡ Err r → first_of n f ≡ Err r
+  first_err n k h e g = first-declined n k h e (ap is_fine g) ∙ g
 
   -- a loop that ends with the answer r of its turn
   pub stopped : {t : Bool} (n k : ℕ) (r : Verdict) → k < n → first_of k f ≡ Fine → t ≡ is_fine r → r ≡ f k → not t ≡ true → r ≡ first_of n f

@@ -1,11 +1,7 @@
 // Document 01, 'What is declined', and document 02, changes 5 and 7: the reasons, with their numbers, and verdicts on a line, a field or an operation.
 #![tactic(auto)]
 
-ghost use Rattle.std.specs.Prelude.{◌≡◌};
-ghost use Rattle.refusals.specs.Refusals.{refusal_number};
-ghost use Rattle.refusals.specs.Verdicts.{is_fine};
-
-#[derive(Clone, Copy)]
+#[derive(Clone, Copy, PartialEq, Eq)]
 pub enum Refusal {
     // Empty, an odd count, or another character.
     Characters,
@@ -47,46 +43,36 @@ pub enum Refusal {
 }
 
 // Document 01's number of a refusal.
-pub fn number(r: Refusal) -> u8
-    ensures { result ≡ refusal_number r }
-{
-    match r {
-        Refusal::Characters => 1,
-        Refusal::TooLong => 2,
-        Refusal::NoKind => 3,
-        Refusal::FreshBlock => 4,
-        Refusal::Fields => 5,
-        Refusal::Range => 6,
-        Refusal::Cost => 7,
-        Refusal::Pair => 8,
-        Refusal::Absent => 9,
-        Refusal::CostAbove => 10,
-        Refusal::Move => 11,
-        Refusal::PartsOutside => 12,
-        Refusal::FullWeight => 13,
-        Refusal::Sums => 14,
-        Refusal::Budget => 15,
-        Refusal::Malformed => 16,
-        Refusal::ForbiddenWeight => 18,
-        Refusal::Literal => 19,
-        Refusal::PairsAbove => 20,
+impl From<Refusal> for u8 {
+    ghost use Rattle.std.specs.Prelude.{◌≡◌};
+    ghost use Rattle.refusals.specs.Refusals.{refusal_number};
+
+    ghost from_gives = { λ r n. n ≡ refusal_number r };
+
+    fn from(r: Refusal) -> u8 {
+        match r {
+            Refusal::Characters => 1,
+            Refusal::TooLong => 2,
+            Refusal::NoKind => 3,
+            Refusal::FreshBlock => 4,
+            Refusal::Fields => 5,
+            Refusal::Range => 6,
+            Refusal::Cost => 7,
+            Refusal::Pair => 8,
+            Refusal::Absent => 9,
+            Refusal::CostAbove => 10,
+            Refusal::Move => 11,
+            Refusal::PartsOutside => 12,
+            Refusal::FullWeight => 13,
+            Refusal::Sums => 14,
+            Refusal::Budget => 15,
+            Refusal::Malformed => 16,
+            Refusal::ForbiddenWeight => 18,
+            Refusal::Literal => 19,
+            Refusal::PairsAbove => 20,
+        }
     }
 }
 
 // Whether what was judged is fine, or the first reason to decline it.
-#[derive(Clone, Copy)]
-pub enum Verdict {
-    Fine,
-    Declined(Refusal),
-}
-
-impl Verdict {
-    pub fn is_fine(self) -> bool
-        ensures { result ≡ is_fine self }
-    {
-        match self {
-            Verdict::Fine => true,
-            Verdict::Declined(_) => false,
-        }
-    }
-}
+pub type Verdict = Result<(), Refusal>;

@@ -16,6 +16,7 @@ use Rattle.lines.specs.declared.kind.Kind.{Kind}
 use Rattle.lines.specs.declared.kind.Kind.TheVariants.{Certify, Search}
 use Rattle.lines.proofs.KindNumbers.{number_low}
 use Rattle.search.specs.declared.answer.Found.{Found}
+use Rattle.search.specs.Answer.{is_found}
 use Rattle.replies.specs.Replies.{figure_width, choice_width, refusal_widths, refusal_byte, refusal_reply, reply_kind, bound_widths, bound_reply, certify_widths, flag, certify_reply, search_widths, ending, shown_cost, shown_choice, search_reply, refusal_numbers, bound_numbers, certify_numbers, search_numbers, plan_digits}
 use Rattle.replies.specs.Shown.{kind_shown, number_shown, constant_shown, bound_shown, flag_shown, weighted_shown, full_weight_shown, ending_shown, says_ended, says_ended_without, cost_shown, plan_shown}
 use Rattle.replies.proofs.ReplyFields.{fields_shown, run_shown}
@@ -115,15 +116,15 @@ module _ (n : ℕ) (f : Found) where
 
   ending-shown : ending_shown (search_reply n f) ≡ ending f
   unfolding search_reply
-  ending-shown = fields_shown search_widths (search_numbers f) (plan_digits n f) refl 1 (omega arith) (ending_low f.ended f.found)
+  ending-shown = fields_shown search_widths (search_numbers f) (plan_digits n f) refl 1 (omega arith) (ending_low f.ended (is_found f))
 
   -- 01: it ended, with a plan
-  pub search_ended : says_ended (search_reply n f) ≡ f.ended && f.found
-  search_ended = ap (λ (v : ℕ). eqb v 1) ending-shown ∙ ending_with f.ended f.found
+  pub search_ended : says_ended (search_reply n f) ≡ f.ended && is_found f
+  search_ended = ap (λ (v : ℕ). eqb v 1) ending-shown ∙ ending_with f.ended (is_found f)
 
   -- 02: it ended, without one
-  pub search_without : says_ended_without (search_reply n f) ≡ f.ended && not f.found
-  search_without = ap (λ (v : ℕ). eqb v 2) ending-shown ∙ ending_without f.ended f.found
+  pub search_without : says_ended_without (search_reply n f) ≡ f.ended && not (is_found f)
+  search_without = ap (λ (v : ℕ). eqb v 2) ending-shown ∙ ending_without f.ended (is_found f)
 
   pub search_cost : shown_cost f < 256 ^ figure_width → cost_shown (search_reply n f) ≡ shown_cost f
   unfolding search_reply

@@ -1,15 +1,18 @@
 -- Laws of written digits: a field after the front that was written before it.
 use mathlib.Core.Path.{◌≡◌, refl, sym, ap, ◌∙◌}
-use mathlib.Core.List.{List, [], ◌∷◌, ◌++◌, append_assoc}
+use mathlib.Core.List.{List, [], ◌∷◌, ◌++◌, append_assoc, append-nil}
 use Prim.Native.Nat.{ℕ, zero, suc, ◌+◌, ◌*◌, ◌-◌, ◌/◌, ◌%◌, ◌<◌, ◌≤◌}
 use native.Mathlib.Nat.{add-zero}
 use native.Mathlib.Numerals.{add-one}
 use native.Mathlib.Omega.{arith}
 use lib.ListN.{length, take, drop, set, length-append, take-append-drop, get_or}
 use lib.Seq.{sets-eq, take_at, drop_at, take-take, drop-drop, drop-append-add, length-take-le, get_or-append-add, get_or-drop}
+use Rattle.theory.proofs.Sum.{part_inside}
 use Rattle.frames.specs.Digits.{byte_digits}
 use Rattle.frames.specs.Fields.{field_digits}
 use Rattle.frames.proofs.RoundTrip.{digits_append, digits-length}
+use Rattle.frames.specs.Runs.{run_digits}
+use Rattle.frames.proofs.RunDigits.{run_none, run_turn_lem, run_length}
 use Rattle.replies.specs.Wrote.{Wrote, written}
 
 -- ---- one byte
@@ -107,6 +110,10 @@ wrote_front d at h =
     let e = length-take-le at d h in
     record { count = sym e; front = rw e (sym (take-append-drop at d)) }
 
+-- where what was written behind a front ends
+pub wrote_end : {d b : List ℕ} {at r : ℕ} (p : List ℕ) → Wrote d (take at d ++ p) b r → at ≤ length d → r ≡ at + length p
+wrote_end {d} {b} {at} {r} p o h = omega (arith, o.count, length-append (take at d) p, length-take-le at d h)
+
 -- the written front
 pub wrote_taken : {d reply b : List ℕ} {n : ℕ} → Wrote d reply b n → take n b ≡ reply
 wrote_taken {d} {reply} o = rw (o.front, o.count) (take_at reply (drop (length reply) d) (length reply) refl)
@@ -117,3 +124,23 @@ wrote_length o = ap length (wrote_taken o) ∙ sym o.count
 -- what lies behind the reply stays
 pub written_behind : (reply buffer : List ℕ) (k : ℕ) → get_or (written reply buffer) (length reply + k) 0 ≡ get_or buffer (length reply + k) 0
 written_behind reply buffer k = get_or-append-add reply (drop (length reply) buffer) k 0 ∙ get_or-drop (length reply) buffer k 0
+
+-- ---- a run of fields behind a front
+
+module _ {d : List ℕ} {at : ℕ} (h : at ≤ length d) (w : ℕ) (f : ℕ → ℕ) where
+  -- no number yet
+  pub wrote_run_none : Wrote d (take at d ++ run_digits w 0 f []) d at
+  wrote_run_none = wrote_as (wrote_front d at h) (sym (rw (run_none w f []) (append-nil (take at d))))
+
+  module _ {b : List ℕ} {r : ℕ} (k : ℕ) (o : Wrote d (take at d ++ run_digits w k f []) b r) where
+    -- where k numbers end
+    pub wrote_run_end : r ≡ at + 2 * (w * k)
+    wrote_run_end = omega (arith, wrote_end (run_digits w k f []) o h, run_length w k f [])
+
+    -- there is room for one more of n numbers
+    pub wrote_run_room : (n : ℕ) → at + 2 * (w * n) ≤ length d → k < n → r + 2 * w ≤ length d
+    wrote_run_room n q t = omega (arith, wrote_run_end, part_inside w k n t)
+
+    -- one more number
+    pub wrote_run_more : {u : ℕ} → u ≡ f k → {b' : List ℕ} {r' : ℕ} → (r' ≡ r + 2 * w) × (b' ≡ take r b ++ field_digits w u (drop (r + 2 * w) b)) → Wrote d (take at d ++ run_digits w (k + 1) f []) b' r'
+    wrote_run_more q e = wrote_as (wrote_field o w q e) (run_turn_lem (take at d) w k f)

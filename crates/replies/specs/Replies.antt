@@ -11,6 +11,7 @@ use Rattle.lines.specs.declared.kind.Kind.{Kind}
 use Rattle.lines.specs.declared.kind.Kind.TheVariants.{Certify, Search}
 use Rattle.lines.specs.Kinds.{kind_number}
 use Rattle.search.specs.declared.answer.Found.{Found}
+use Rattle.search.specs.Answer.{is_found, found_cost, found_plan}
 
 -- ---- fields one after the other
 
@@ -89,14 +90,14 @@ search_widths = 1 ∷ 1 ∷ 4 ∷ figure_width ∷ []
 
 -- '01 ended or 00 spent', and document 02, change 5: 'A search that ends without a plan says 02'
 abbrev pub ending : Found → ℕ
-ending f = cond f.ended (cond f.found 1 2) 0
+ending f = cond f.ended (cond (is_found f) 1 2) 0
 
 -- 'With no plan yet .., cost and plan are all FF'
 abbrev pub shown_cost : Found → ℕ
-shown_cost f = cond f.found f.cost.0 (256 ^ figure_width - 1)
+shown_cost f = cond (is_found f) (found_cost f) (256 ^ figure_width - 1)
 
 abbrev pub shown_choice : Found → ℕ → ℕ
-shown_choice f i = cond f.found (get_or f.plan i 0) (256 ^ choice_width - 1)
+shown_choice f i = cond (is_found f) (get_or (found_plan f) i 0) (256 ^ choice_width - 1)
 
 abbrev pub search_numbers : Found → List ℕ
 search_numbers f = reply_kind Search ∷ ending f ∷ f.count ∷ shown_cost f ∷ []

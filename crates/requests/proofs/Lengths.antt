@@ -1,4 +1,7 @@
 -- No reply to a request is empty or longer than the longest line, and none but a saved line is longer than the longest of the fixed replies.
+use Rattle.std.specs.Prelude.{Result, Ok, Err}
+use Rattle.refusals.specs.declared.Refusal.{Refusal}
+use Rattle.certificates.specs.declared.certify.Ceiling.{Ceiling}
 use mathlib.Core.Path.{◌≡◌, refl}
 use mathlib.Core.Bool.{true}
 use Prim.Native.Nat.{ℕ, ◌<◌, ◌≤◌}
@@ -7,9 +10,7 @@ use native.Mathlib.Omega.{arith}
 use lib.IntN.{ℤ}
 use lib.ListN.{length}
 use Rattle.theory.proofs.Range.{not_both}
-use Rattle.refusals.specs.declared.Refusal.TheVariants.{Sums, ForbiddenWeight}
-use Rattle.refusals.specs.declared.Verdict.{Verdict}
-use Rattle.refusals.specs.declared.Verdict.TheVariants.{Fine, Declined}
+use Rattle.refusals.specs.Verdicts.{Verdict}
 use Rattle.tables.specs.Block.{trains}
 use Rattle.tables.specs.WellFormed.{Study}
 use Rattle.tables.proofs.Study.{trains_range}
@@ -19,8 +20,6 @@ use Rattle.clauses.specs.Outcomes.{clauses_outcome}
 use Rattle.shift.specs.Shift.{shift_outcome}
 use Rattle.tighten.specs.Tighten.{tighten_outcome}
 use Rattle.directional.specs.Directional.{direct_outcome}
-use Rattle.certificates.specs.declared.certify.Certificate.{Certificate}
-use Rattle.certificates.specs.declared.certify.Certificate.TheVariants.{Unbalanced, Forbidden, Balanced}
 use Rattle.certificates.specs.Certify.{weights_of, certificate}
 use Rattle.frames.specs.Frames.{max_characters}
 use Rattle.frames.specs.Runs.{run_of, signed_run_of}
@@ -45,13 +44,12 @@ abbrev pub UpTo : ℕ → List ℕ → Type 0
 UpTo most reply = (0 < length reply) × (length reply ≤ most)
 
 operated_short : (kind : Kind) (v : Verdict) (old new : List ℤ) → UpTo longest_fixed (operated kind v old new).reply
-operated_short kind Fine old new = omega (arith, bound_length kind new)
-operated_short kind (Declined r) old new = omega (arith, refusal_length r)
+operated_short kind (Ok _) old new = omega (arith, bound_length kind new)
+operated_short kind (Err r) old new = omega (arith, refusal_length r)
 
-certified_short : (full_weight : ℕ) (c : Certificate) (b : List ℤ) → UpTo longest_fixed (certified full_weight c b).reply
-certified_short full_weight Unbalanced b = omega (arith, refusal_length Sums)
-certified_short full_weight Forbidden b = omega (arith, refusal_length ForbiddenWeight)
-certified_short full_weight (Balanced c) b = omega (arith, certify_length full_weight c)
+certified_short : (full_weight : ℕ) (c : Result Ceiling Refusal) (b : List ℤ) → UpTo longest_fixed (certified full_weight c b).reply
+certified_short full_weight (Err r) b = omega (arith, refusal_length r)
+certified_short full_weight (Ok c) b = omega (arith, certify_length full_weight c)
 
 -- a fixed reply
 pub requested_short : (l : List ℕ) (b : List ℤ) (room : ℕ) (q : Request) → fixed_reply (request_kind q) ≡ true → Asks l b q room → UpTo longest_fixed (requested q l b).reply
@@ -67,7 +65,7 @@ requested_short l b room (Certify q) e a = certified_short q.full (certificate b
 requested_short l b room (Search q) e a = omega (arith, search_length (trains b) (search_answer b q.budget), trains_range (study_ready a refl))
 requested_short l b room Save e a = absurd (not_both e refl)
 requested_short l b room Round e a = operated_short kind.Round (direct_outcome b) b _
-requested_short l b room (Clauses q) e a = operated_short kind.Clauses (clauses_outcome q.trains q.scale.0 (clauses_of l)) _ _
+requested_short l b room (Clauses q) e a = operated_short kind.Clauses (clauses_outcome q.trains q.scale (clauses_of l)) _ _
 
 -- a saved line is a frame
 saved_most : (l : List ℕ) (b : List ℤ) → Study b → UpTo max_characters (requested Save l b).reply

@@ -21,7 +21,7 @@ use Rattle.reader.specs.Reading.{line_of}
 use Rattle.replies.specs.Replies.{longest_fixed}
 use Rattle.replies.proofs.Lengths.{refusal_length}
 use Rattle.requests.specs.Answer.{Answer, answered, declined, requested, fixed_reply, fitted, line_answer}
-use Rattle.requests.specs.Wrote.{Answers, Asks}
+use Rattle.requests.specs.Wrote.{Asks}
 use Rattle.requests.proofs.Lengths.{requested_short, requested_most}
 
 -- what a line asks of a block, if anything, has a fixed reply
@@ -85,11 +85,6 @@ module _ (l : List ℕ) (b : List ℤ) (room : ℕ) where
       pub line_given : max_characters ≤ room → 0 < length (line_answer l b room).reply
       line_given m =
           line_cases (λ a. 0 < length a.reply) (λ r e. omega (arith, refusal_length r)) (λ q a k. (requested_most l b room q a).0) (λ q a k. absurd (omega (arith, requested_most l b room q a)))
-
--- so that what answers a request whose reply is fixed answers the line
-pub fixed_answers : {l : List ℕ} {b : List ℤ} {q : Request} {room : ℕ} → Asks l b q room → fixed_reply (request_kind q) ≡ true → {buffer after : List ℕ} {left : List ℤ} {n : ℕ}
-    → Answers (requested q l b) buffer left after n → Answers (fitted room b (requested q l b)) buffer left after n
-fixed_answers {l} {b} {q} {room} a f w = rw (fitted_same room b (requested q l b) (omega (arith, a.fits, requested_short l b room q f a))) w
 
 -- rooms for the longest reply are all alike
 pub room_apart : (l : List ℕ) (b : List ℤ) (u v : ℕ) → max_characters ≤ u → max_characters ≤ v → well_formed b ≡ true → line_answer l b u ≡ line_answer l b v

@@ -1,10 +1,10 @@
 -- Document 01: the answer to a line on a well-formed block, from the line, the block and the room for the reply to the block and the reply.
-use Rattle.std.specs.Prelude.{Bool, true, false, cond, List, [], ℕ, ltb, ℤ, length}
+use Rattle.std.specs.Prelude.{Bool, true, false, cond, List, [], ℕ, ltb, ℤ, length, Result, Ok, Err}
 use Rattle.refusals.specs.declared.Refusal.{Refusal}
-use Rattle.refusals.specs.declared.Refusal.TheVariants.{Sums, ForbiddenWeight}
-use Rattle.refusals.specs.declared.Verdict.{Verdict}
-use Rattle.refusals.specs.declared.Verdict.TheVariants.{Fine, Declined}
+use Rattle.refusals.specs.declared.Refusal.TheVariants.{Malformed}
+use Rattle.refusals.specs.Verdicts.{Verdict}
 use Rattle.tables.specs.Block.{trains}
+use Rattle.tables.specs.WellFormed.{well_formed}
 use Rattle.operations.specs.Add.{added, add_outcome}
 use Rattle.operations.specs.Load.{loaded_block}
 use Rattle.operations.specs.Saved.{saved_numbers}
@@ -13,8 +13,7 @@ use Rattle.clauses.specs.Outcomes.{clauses_outcome}
 use Rattle.shift.specs.Shift.{shifted, shift_outcome}
 use Rattle.tighten.specs.Tighten.{tightened, tighten_outcome}
 use Rattle.directional.specs.Directional.{directed, direct_outcome}
-use Rattle.certificates.specs.declared.certify.Certificate.{Certificate}
-use Rattle.certificates.specs.declared.certify.Certificate.TheVariants.{Unbalanced, Forbidden, Balanced}
+use Rattle.certificates.specs.declared.certify.Ceiling.{Ceiling}
 use Rattle.certificates.specs.Certify.{weights_of, certificate}
 use Rattle.frames.specs.Runs.{run_of, signed_run_of}
 use Rattle.lines.specs.declared.kind.Kind.{Kind}
@@ -46,14 +45,13 @@ declined b r = answered b (refusal_reply r)
 -- an operation that ends at `new` and is done answers with the new constant and bound, a directional round too: 'The reply is 88 with constant and bound; 12 applies'; a declined one, 10, 12 or
 -- 20, leaves the block
 abbrev pub operated : Kind → Verdict → List ℤ → List ℤ → Answer
-operated kind Fine old new = answered new (bound_reply kind new)
-operated kind (Declined r) old new = declined old r
+operated kind (Ok _) old new = answered new (bound_reply kind new)
+operated kind (Err r) old new = declined old r
 
 -- 'Certify and search change nothing in the block'; 14 where the sums disagree; then 18, 'a weight above 0 on a forbidden entry, after 14'
-abbrev pub certified : ℕ → Certificate → List ℤ → Answer
-certified full_weight Unbalanced b = declined b Sums
-certified full_weight Forbidden b = declined b ForbiddenWeight
-certified full_weight (Balanced c) b = answered b (certify_reply full_weight c)
+abbrev pub certified : ℕ → Result Ceiling Refusal → List ℤ → Answer
+certified full_weight (Ok c) b = answered b (certify_reply full_weight c)
+certified full_weight (Err r) b = declined b r
 
 -- 'Kind 07, with no fields, answers with a load line for H'; it changes nothing in the block
 abbrev pub saved : List ℤ → Answer
@@ -72,7 +70,7 @@ requested (Certify q) l b = certified q.full (certificate b (weights_of b q.full
 requested (Search q) l b = answered b (search_reply (trains b) (search_answer b q.budget))
 requested Save l b = saved b
 requested Round l b = operated kind.Round (direct_outcome b) b (kept b (directed b))
-requested (Clauses q) l b = operated kind.Clauses (clauses_outcome q.trains q.scale.0 (clauses_of l)) b (loaded_block (clause_numbers_of l))
+requested (Clauses q) l b = operated kind.Clauses (clauses_outcome q.trains q.scale (clauses_of l)) b (loaded_block (clause_numbers_of l))
 
 -- what a line asks, done, or the refusal
 abbrev pub carried_out : Line → List ℕ → List ℤ → Answer
@@ -98,3 +96,7 @@ fitted room b a = cond (ltb room (length a.reply)) (answered b []) a
 -- the answer to a line on a well-formed block, where the reply may have `room` characters
 unfoldable pub line_answer : List ℕ → List ℤ → ℕ → Answer
 line_answer l b room = fitted room b (carried_out (line_of l b) l b)
+
+-- 'Order: 17, 16', then the line: the answer where the reply may have `room` characters
+abbrev pub block_answer : List ℕ → List ℤ → ℕ → Answer
+block_answer l b room = cond (well_formed b) (line_answer l b room) (declined b Malformed)

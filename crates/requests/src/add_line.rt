@@ -10,13 +10,14 @@ use crate::outcome::write_outcome;
 use lines::kind::Kind;
 use lines::request::Add;
 use operations::add;
+use tables::block::Places;
 
 // Adds points to a choice.
-pub fn answer_add(block: &mut [i64], reply: &mut [u8], q: Add) -> usize
+#[tactic(auto, using(operations::proofs::Added::add_study))]
+pub fn answer_add(block: &mut Places, reply: &mut [u8], q: Add) -> usize
     requires { (longest_fixed ≤ length reply.old) × Adds block.old q }
     ensures { Answers (operated add_kind (add_outcome q.train q.choice q.points.0 block.old) block.old (added q.train q.choice q.points.0 block.old)) reply.old block.new reply.new result }
 {
-    let points = q.points;
-    let outcome = add::add(block, q.train, q.choice, points);
+    let outcome = add::add(block, q.train, q.choice, q.points);
     write_outcome(reply, Kind::Add, outcome, block)
 }

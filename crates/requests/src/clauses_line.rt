@@ -1,50 +1,24 @@
-// Document 02, change 7: a study written as clauses, carried out and answered. Its clauses are read from the line into local arrays.
-ghost use Rattle.std.specs.Prelude.{◌≡◌, length};
+// Document 02, change 7: a study written as clauses, carried out and answered.
+ghost use Rattle.std.specs.Prelude.{◌≤◌, length};
 ghost use Rattle.lines.specs.declared.request.Request.TheVariants.{Clauses as clauses_request};
+ghost use Rattle.replies.specs.Replies.{longest_fixed};
 ghost use Rattle.requests.specs.Answer.{requested};
-ghost use Rattle.requests.specs.Wrote.{Answers, Asks};
+ghost use Rattle.requests.specs.Wrote.{Answers, LoadsClauses};
 
 use crate::outcome::write_outcome;
 use clauses::loads;
+use frames::frame::Frame;
 use lines::kind::Kind;
 use lines::request::Clauses;
-
-// Decodes the clauses into slices of their number, and loads the study that they stand for.
-fn load_with(
-    line: &[u8],
-    block: &mut [i64],
-    reply: &mut [u8],
-    q: Clauses,
-    firsts: &mut [i64],
-    seconds: &mut [i64],
-    weights: &mut [u64],
-) -> usize
-    requires asks { Asks line.now block.old (clauses_request q) (length reply.old) }
-    requires firsts_len { (length firsts.old ≡ q.clauses.count) × (length seconds.old ≡ q.clauses.count) × (length weights.old ≡ q.clauses.count) }
-    ensures { Answers (requested (clauses_request q) line.now block.old) reply.old block.new reply.new result }
-{
-    decoding::decode_clauses(line, firsts, seconds, weights);
-    let scale = q.scale;
-    let outcome = loads::load_clauses(block, q.trains, scale, firsts, seconds, weights);
-    write_outcome(reply, Kind::Clauses, outcome, block)
-}
+use tables::block::Places;
 
 // Loads a study written as clauses.
-pub fn answer_clauses(line: &[u8], block: &mut [i64], reply: &mut [u8], q: Clauses) -> usize
-    requires { Asks line.now block.old (clauses_request q) (length reply.old) }
+#[tactic(auto, unfolding(crate::specs::Answer::requested), using(clauses::proofs::Block::clauses_study))]
+pub fn answer_clauses(line: &[u8], block: &mut Places, reply: &mut [u8], q: Clauses) -> usize
+    requires { (longest_fixed ≤ length reply.old) × LoadsClauses line.now q }
     ensures { Answers (requested (clauses_request q) line.now block.old) reply.old block.new reply.new result }
 {
-    let mut firsts = [0i64; Clauses::MOST];
-    let mut seconds = [0i64; Clauses::MOST];
-    let mut weights = [0u64; Clauses::MOST];
-    let count = q.clauses.count;
-    load_with(
-        line,
-        block,
-        reply,
-        q,
-        &mut firsts[..count],
-        &mut seconds[..count],
-        &mut weights[..count],
-    )
+    let clauses = decoding::decode_clauses(Frame::known(line));
+    let outcome = loads::load_clauses(block, q.trains, q.scale, clauses.as_slice());
+    write_outcome(reply, Kind::Clauses, outcome, block)
 }

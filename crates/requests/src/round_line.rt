@@ -10,9 +10,11 @@ ghost use Rattle.requests.specs.Wrote.{Answers};
 
 use crate::outcome::write_outcome;
 use lines::kind::Kind;
+use tables::block::Places;
 
 // Makes a directional round of the held costs.
-pub fn answer_round(block: &mut [i64], reply: &mut [u8]) -> usize
+#[tactic(auto, using(crate::proofs::Ready::directed_study))]
+pub fn answer_round(block: &mut Places, reply: &mut [u8]) -> usize
     requires { (longest_fixed ≤ length reply.old) × Study block.old }
     ensures { Answers (operated round_kind (direct_outcome block.old) block.old (kept block.old (directed block.old))) reply.old block.new reply.new result }
 {

@@ -1,6 +1,5 @@
 // Document 01, '06 search', carried out and answered. It leaves the block.
 ghost use Rattle.std.specs.Prelude.{◌≤◌, length};
-ghost use Rattle.tables.specs.WellFormed.{Study};
 ghost use Rattle.tables.specs.LineLimits.{max_budget};
 ghost use Rattle.tables.specs.Block.{trains};
 ghost use Rattle.search.specs.Answer.{search_answer};
@@ -11,12 +10,14 @@ use lines::request::Search;
 use replies::replies::write_search;
 use search::answer;
 use tables::block;
+use tables::held_study::HeldStudy;
 
 // Searches for the best plan.
-pub fn answer_search(block: &[i64], reply: &mut [u8], q: Search) -> usize
-    requires { (longest_fixed ≤ length reply.old) × Study block.now × (q.budget ≤ max_budget) }
-    ensures { Wrote reply.old (search_reply (trains block.now) (search_answer block.now q.budget)) reply.new result }
+#[tactic(auto, using(tables::proofs::Study::trains_range))]
+pub fn answer_search(study: HeldStudy<'_>, reply: &mut [u8], q: Search) -> usize
+    requires { (longest_fixed ≤ length reply.old) × (q.budget ≤ max_budget) }
+    ensures { Wrote reply.old (search_reply (trains study.entry.numbers.now) (search_answer study.entry.numbers.now q.budget)) reply.new result }
 {
-    let found = answer::search(block, q.budget);
-    write_search(reply, block::trains(block), found)
+    let found = answer::search(study, q.budget);
+    write_search(reply, block::trains(study.numbers), found)
 }

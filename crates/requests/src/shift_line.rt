@@ -1,44 +1,42 @@
-// Document 01, '03 shift', carried out and answered. Lifts and moves are read from the line into local arrays.
-ghost use Rattle.std.specs.Prelude.{◌≡◌, length};
+// Document 01, '03 shift', carried out and answered.
+ghost use Rattle.std.specs.Prelude.{◌≤◌, length};
 ghost use Rattle.lines.specs.declared.request.Request.TheVariants.{Shift as shift_of};
+ghost use Rattle.replies.specs.Replies.{longest_fixed};
 ghost use Rattle.requests.specs.Answer.{requested};
-ghost use Rattle.requests.specs.Wrote.{Answers, Asks};
+ghost use Rattle.requests.specs.Wrote.{Answers, Shifts};
 
 use crate::outcome::write_outcome;
+use arrayvec::ArrayVec;
 use frames::runs;
 use lines::kind::Kind;
 use lines::request::Shift;
-use tables::block::Block;
+use tables::block::{Block, Places};
 
 // The most moves of a shift.
 const MOVES: usize = Block::PAIRS * (Block::CHOICES + Block::CHOICES);
 
-// Decodes lifts and moves into slices of their numbers, and shifts the held costs.
-fn shift_with(
-    line: &[u8],
-    block: &mut [i64],
-    reply: &mut [u8],
-    q: Shift,
-    lifts: &mut [i64],
-    moves: &mut [i64],
-) -> usize
-    requires { Asks line.now block.old (shift_of q) (length reply.old) × (length lifts.old ≡ q.lifts.count) × (length moves.old ≡ q.moves.count) }
-    ensures { Answers (requested (shift_of q) line.now block.old) reply.old block.new reply.new result }
-{
-    runs::decode_signed(line, q.lifts.at, Shift::MOVE_WIDTH, lifts);
-    runs::decode_signed(line, q.moves.at, Shift::MOVE_WIDTH, moves);
-    let outcome = shift::shift(block, lifts, moves);
-    write_outcome(reply, Kind::Shift, outcome, block)
-}
-
 // Shifts the held costs.
-pub fn answer_shift(line: &[u8], block: &mut [i64], reply: &mut [u8], q: Shift) -> usize
-    requires { Asks line.now block.old (shift_of q) (length reply.old) }
+#[tactic(auto, unfolding(crate::specs::Answer::requested), using(theory::proofs::Lists::list_length, crate::proofs::Ready::shifted_study))]
+pub fn answer_shift(line: &[u8], block: &mut Places, reply: &mut [u8], q: Shift) -> usize
+    requires { (longest_fixed ≤ length reply.old) × Shifts line.now block.old q }
     ensures { Answers (requested (shift_of q) line.now block.old) reply.old block.new reply.new result }
 {
-    let mut lifts = [0i64; Block::TRAINS];
-    let mut moves = [0i64; MOVES];
-    let n = q.lifts.count;
-    let count = q.moves.count;
-    shift_with(line, block, reply, q, &mut lifts[..n], &mut moves[..count])
+    let mut lifts: ArrayVec<i64, { Block::TRAINS }> = ArrayVec::new();
+    let mut moves: ArrayVec<i64, MOVES> = ArrayVec::new();
+    runs::decode_signed(
+        line,
+        q.lifts.at,
+        Shift::MOVE_WIDTH,
+        q.lifts.count,
+        &mut lifts,
+    );
+    runs::decode_signed(
+        line,
+        q.moves.at,
+        Shift::MOVE_WIDTH,
+        q.moves.count,
+        &mut moves,
+    );
+    let outcome = shift::shift(block, lifts.as_slice(), moves.as_slice());
+    write_outcome(reply, Kind::Shift, outcome, block)
 }

@@ -10,9 +10,11 @@ ghost use Rattle.requests.specs.Wrote.{Answers};
 
 use crate::outcome::write_outcome;
 use lines::kind::Kind;
+use tables::block::Places;
 
-// Tightens the held costs.
-pub fn answer_tighten(block: &mut [i64], reply: &mut [u8]) -> usize
+// Tightens the held costs. The round is as short: one function over the operation would take a longer contract than both.
+#[tactic(auto, using(crate::proofs::Ready::tightened_study))]
+pub fn answer_tighten(block: &mut Places, reply: &mut [u8]) -> usize
     requires { (longest_fixed ≤ length reply.old) × Study block.old }
     ensures { Answers (operated tighten_kind (tighten_outcome block.old) block.old (kept block.old (tightened block.old))) reply.old block.new reply.new result }
 {

@@ -4,7 +4,7 @@ use mathlib.Core.Path.{◌≡◌, refl, sym, ap, ◌∙◌}
 use mathlib.Core.Bool.{true, false}
 use mathlib.Core.List.{List}
 use mathlib.Core.Logic.{⊎_elim, ◌≢◌}
-use Prim.Native.Nat.{ℕ, zero, suc, ◌+◌, ◌*◌, ◌-◌, ◌<◌, ◌≤◌}
+use Prim.Native.Nat.{ℕ, zero, suc, ◌+◌, ◌*◌, ◌-◌, ◌<◌, ◌≤◌, ◌^◌}
 use native.Mathlib.Decide.{ℕ_discrete}
 use native.Mathlib.Nat.{add-zero, sub-zero, suc-mul, mul-le-mul_right}
 use native.Mathlib.Omega.{arith}
@@ -14,14 +14,14 @@ use borrow.Author.Tests.{le-ltb}
 use Rattle.theory.specs.Fold.{iter}
 use Rattle.tables.specs.Block.{block_length, held_choices_from, held_entries_from, held_choice_place, constant_place, at, nat, figure, trains, pairs, size, held_choice}
 use Rattle.tables.specs.Plans.{shape_of}
-use Rattle.tables.proofs.Study.{same_figure, same_size, figure_at}
+use Rattle.tables.proofs.Study.{same_figure, same_size, same_pairs, figure_at}
 use Rattle.rewriting.specs.declared.sides.PlaceRun.{PlaceRun}
 use Rattle.rewriting.specs.declared.sides.Side.{Side}
 use Rattle.rewriting.specs.declared.sides.Side.TheVariants.{Rows, Columns}
 use Rattle.rewriting.specs.Moves.{Room, ShapeInRange, run_place, move_run, lane_train, lane_run, choices_run}
 use Rattle.rewriting.specs.Leasts.{open_place, NonNegative, run_least, run_tightened, lane_tightened, train_tightened}
 use Rattle.rewriting.proofs.Runs.{room_more, Met, Missed, meet, move_to, move_met, move_other, move_room}
-use Rattle.rewriting.proofs.Shape.{room_figure, unary, same_lane, lane_train_lem, lanes_most, SameLoaded, BetweenCosts, project_between_costs, between_costs_run, move_loaded, Moved, none, move, moved_shape, lanes_moved, trains_moved}
+use Rattle.rewriting.proofs.Shape.{room_figure, unary, same_lane, same_lanes, shape_in_range_kept, lane_train_lem, lanes_most, SameLoaded, BetweenCosts, project_between_costs, between_costs_run, move_loaded, Moved, none, move, moved_shape, lanes_moved, trains_moved}
 use Rattle.rewriting.proofs.Opens.{open_constant, open_choice, open_same}
 use Rattle.rewriting.proofs.LeastOpen.{least_open_le, least_open_is, least_open_most, least_open_none}
 
@@ -186,6 +186,18 @@ module _ {b : List ℤ} (s : ShapeInRange b) where
       lanes_moved s (λ x y. pos (run_least (lane_run side y k x) y)) side k h
       (λ x y e q. let d = lane_bounds side k x h q in record { is = rw (same_lane e s k (omega (arith, s.pairs)) side x); below = d.0; above = d.1 })
       m n c l w
+
+  -- what lane x asks of the block that the lanes before it leave
+  pub lane_asked : (side : Side) (k x : ℕ) → NonNegative b → Room b (2 ^ 52) → k < pairs b → x < size b (lane_train side b k)
+      → let c = iter x (lane_tightened side k) b in ShapeInRange c × Room c (2 ^ 57) × (k < pairs c) × (x < size c (lane_train side c k))
+  lane_asked side k x o r h l =
+      let w = lanes_tightened_lem side k x 0 b h (omega arith) none in
+      let e = moved_shape s w in (
+        shape_in_range_kept e s,
+        room_more (2 ^ 57) (moved_falling s (falling_start o r) w).most (omega (arith, lanes_most s side k h)),
+        omega (arith, same_pairs e),
+        omega (arith, same_lanes e s k (omega (arith, s.pairs)) side),
+      )
 
   pub trains-tightened : (m n : ℕ) (c : List ℤ) → m ≤ trains b → Moved (Tight held_choices_from) b n c
       → Moved (Tight held_choices_from) b (n + m) (iter m train_tightened c)

@@ -10,8 +10,7 @@ use lib.IntN.{ℤ, pos, negsuc}
 use borrow.Author.Tests.{lt-ltb, ltb-true}
 use Rattle.theory.proofs.Range.{below_suc, not_both}
 use Rattle.refusals.specs.declared.Refusal.TheVariants.{PartsOutside}
-use Rattle.refusals.specs.declared.Verdict.TheVariants.{Fine, Declined}
-use Rattle.refusals.specs.Verdicts.{settled, unless}
+use Rattle.refusals.specs.Verdicts.{Fine, Declined, settled, unless}
 use Rattle.tables.specs.Block.{max_parts, constant_place, held_choice_place, held_entry_place, at, figure, trains, pairs, size, first, second}
 use Rattle.tables.specs.Plans.{shape_of, held_costs}
 use Rattle.tables.specs.WellFormed.{from_to, within, is_open, holds_study, Study}

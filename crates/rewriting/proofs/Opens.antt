@@ -7,13 +7,16 @@ use Prim.Native.Nat.{ℕ, ◌+◌, ◌-◌, ◌<◌, ◌≤◌}
 use native.Mathlib.Decide.{dec_lt}
 use native.Mathlib.Omega.{arith}
 use lib.IntN.{ℤ, pos}
+use lib.ListN.{length}
 use borrow.Author.Tests.{lt-ltb, le-ltb}
 use Rattle.tables.specs.Block.{block_length, max_trains, max_choices, constant_place, loaded_choices_from, held_choices_from, loaded_entries_from, held_entries_from, loaded_choice_place, held_choice_place, loaded_entry_place, held_entry_place, at, figure}
 use Rattle.tables.specs.WellFormed.{is_open, Study}
 use Rattle.tables.proofs.Mates.{mate_open}
 use Rattle.tables.proofs.Limits.{open_natural}
 use Rattle.tables.proofs.Study.{shape_natural}
-use Rattle.rewriting.specs.Leasts.{HeldPlace, mate_place, open_place, NonNegative}
+use Rattle.rewriting.specs.declared.sides.PlaceRun.{PlaceRun}
+use Rattle.rewriting.specs.Moves.{RunIn, run_place}
+use Rattle.rewriting.specs.Leasts.{HeldPlace, HeldRun, mate_place, open_place, NonNegative}
 use Rattle.rewriting.proofs.Shape.{Loaded, SameLoaded}
 
 -- ---- mates
@@ -55,14 +58,14 @@ mate_loaded p l h =
     (λ q r. rw (mate_loaded_entries p q r) (record { table = inr (record { low = q; high = r }) }))
     (λ q. rw (mate_entries p q) (record { table = inr (record { low = omega arith; high = omega arith }) }))
 
--- below the entries a held cost is a choice's
-pub held_choices_lem : {p : ℕ} → HeldPlace p → p < held_entries_from → mate_place p ≡ p - (held_choices_from - loaded_choices_from)
-held_choices_lem {p} h q = ⊎_elim (λ (l : p < loaded_entries_from). mate_choices p h.low l) (λ (l : held_entries_from ≤ p). absurd (omega arith)) h.table
-
 -- a mate stands before its place
 pub held-mate : {p : ℕ} → HeldPlace p → mate_place p < p
 held-mate {p} h =
     ⊎_elim (λ (q : p < loaded_entries_from). omega (arith, h.low, mate_choices p h.low q)) (λ (q : held_entries_from ≤ p). omega (arith, mate_entries p q)) h.table
+
+-- so does the mate of each place of a run
+pub mate_within : {b : List ℤ} {r : PlaceRun} → RunIn b r → HeldRun r → (i : ℕ) → i < r.count → mate_place (run_place r i) < length b
+mate_within o h i l = omega (arith, held-mate (h.held i l), o.inside i l)
 
 -- ---- open places
 

@@ -15,7 +15,8 @@ use Rattle.theory.proofs.Range.{both_true, not_both}
 use Rattle.theory.proofs.Sum.{update_same, update_other}
 use Rattle.tables.specs.Block.{block_length, max_trains, max_choices, max_pairs, max_cost, max_parts, entries_of_pair, constant_place, loaded_choices_from, held_choices_from, loaded_entries_from, held_entries_from, loaded_choice_place, loaded_entry_place, held_choice_place, held_entry_place, at, figure, trains, pairs, constant, size, first, second, held_choice, held_entry}
 use Rattle.tables.specs.Plans.{IsPlan, Open, total, shape_of, held_costs, held_total}
-use Rattle.tables.specs.WellFormed.{Limits, from_to, cost_to, within, is_open, used_if, choice_used, entry_used, head_limits, limits_at, Study}
+use Rattle.tables.specs.declared.place_limits.Limits.{Limits}
+use Rattle.tables.specs.WellFormed.{from_to, cost_to, within, is_open, used_if, choice_used, entry_used, head_limits, limits_at, Study}
 use Rattle.tables.proofs.Limits.{natural_open, within_pos, choice_used_lem, entry_used_lem, limits_head, limits_loaded_choices, limits-held_choices, limits_loaded_entries, limits-held_entries}
 use Rattle.tables.proofs.Study.{study_from, study_place, shape_natural, trains_range, size_range, first-below-second, first-below-trains, second-below-trains}
 use Rattle.tables.proofs.Plans.{open_plan, study_shaped, same_shape_total, constant_at_most_total, choice_at_most_total, pair_at_most_total}

@@ -117,6 +117,10 @@ module _ (r : PlaceRun) (z : ℤ) (b : List ℤ) where
               (meet r p);
         }
 
+-- so it is while the run is gone through
+pub front_room : {r : PlaceRun} {b : List ℤ} (n : ℕ) (z : ℤ) (h g : ℕ) → n ≤ r.count → RunIn b r → Room b h → h + mag z + 1 ≤ g → Room (add_run (front n r) z b) g
+front_room {r} {b} n z h g l o w e = room_more g (add_room (front n r) z b (run_front n l o) h w) e
+
 pub add_at_room : (p : ℕ) (z : ℤ) (b : List ℤ) (h : ℕ) → p < length b → Room b h → Room (add_at p z b) (h + mag z + 1)
 add_at_room p z b h l o = record { room = λ q. by q (ℕ_discrete q p) }
   where
@@ -125,11 +129,6 @@ add_at_room p z b h l o = record { room = λ q. by q (ℕ_discrete q p) }
     by q (no n) = rw (at_set_other b p q (at b p +ℤ z) n) (omega (arith, o.room q))
 
 -- ---- a move
-
--- its two steps
-pub moved_by : (r : PlaceRun) (α : ℤ) (b : List ℤ) {c d : List ℤ} {z : ℤ} → c ≡ add_at r.to α b → z ≡ neg_ℤ α → d ≡ add_run r z c → d ≡ move_run r α b
-unfolding move_run
-moved_by r α b p q e = e ∙ rw (q, p)
 
 module _ (r : PlaceRun) (α : ℤ) (b : List ℤ) where
   pub move_length : length (move_run r α b) ≡ length b

@@ -17,7 +17,8 @@ use Rattle.theory.proofs.Range.{both_true}
 use Rattle.theory.proofs.Fold.{iter-ind}
 use Rattle.units.specs.Units.{scale_min, scale_max}
 use Rattle.tables.specs.Block.{block_length, max_trains, max_choices, max_pairs, max_cost, max_parts, trains_place, scale_place, pairs_place, constant_place, sizes_from, firsts_from, seconds_from, loaded_choices_from, held_choices_from, loaded_entries_from, held_entries_from, at, nat, figure, trains, pairs, size, first, second}
-use Rattle.tables.specs.WellFormed.{Limits, from_to, cost_to, within, used_if, choice_used, entry_used, head_limits, shape_limits, cost_limits, limits_at, Study}
+use Rattle.tables.specs.declared.place_limits.Limits.{Limits}
+use Rattle.tables.specs.WellFormed.{from_to, cost_to, within, used_if, choice_used, entry_used, head_limits, shape_limits, cost_limits, limits_at, Study}
 use Rattle.tables.proofs.Limits.{within_high}
 use Rattle.tables.proofs.Study.{trains_range, pairs_range, size_range, size_high, first_high, second_high, first-below-trains, second-below-trains, SameShape, same_trains, same_pairs, same_size, same_first, same_second}
 use Rattle.rewriting.specs.declared.sides.PlaceRun.{PlaceRun}
@@ -241,6 +242,10 @@ between_costs_run c e f = record { apart = f.apart; inside = λ i l. omega (arit
 
 pub project_run : {b : List ℤ} {r : PlaceRun} → ShapeInRange b → Project b r → RunIn b r
 project_run {b} s p = between_costs_run b s.whole (project_between_costs s p)
+
+-- whose places are places of T
+pub project_held : {b : List ℤ} {r : PlaceRun} → ShapeInRange b → Project b r → HeldRun r
+project_held s p = (project_between_costs s p).costs
 
 -- no held cost is a place of H
 loaded_not_held : {p q : ℕ} → Loaded p → HeldPlace q → p ≡ q → ⊥

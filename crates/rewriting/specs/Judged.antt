@@ -1,8 +1,7 @@
 -- How an operation is judged: 'Only the end is judged', with what is forbidden put back.
 use Rattle.std.specs.Prelude.{List, [], ◌∷◌, ℤ, pos, negsuc}
 use Rattle.refusals.specs.declared.Refusal.TheVariants.{PartsOutside}
-use Rattle.refusals.specs.declared.Verdict.{Verdict}
-use Rattle.refusals.specs.Verdicts.{settled, unless}
+use Rattle.refusals.specs.Verdicts.{Verdict, settled, unless}
 use Rattle.tables.specs.WellFormed.{holds_study}
 
 -- the new number, or the old one where that is below 0

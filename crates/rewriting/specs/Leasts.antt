@@ -1,12 +1,12 @@
 -- Which places are open, the least of a run over its open places, and what moves it: the step that a tightening and a round are made of.
-use Rattle.std.specs.Prelude.{◌≡◌, Bool, true, false, cond, List, ◌⊎◌, ℕ, zero, suc, ◌-◌, ◌<◌, ◌≤◌, min, ltb, ℤ, pos}
+use Rattle.std.specs.Prelude.{◌≡◌, Bool, true, false, cond, List, ◌⊎◌, ℕ, zero, suc, ◌-◌, ◌<◌, ◌≤◌, min, ltb, ℤ, pos, Option, Some, None}
 use Rattle.theory.specs.Fold.{iter}
+use Rattle.units.specs.declared.Parts.{Parts}
 use Rattle.units.specs.Units.{the_parts}
 use Rattle.tables.specs.Block.{block_length, loaded_choices_from, held_choices_from, loaded_entries_from, held_entries_from, at, figure, size}
 use Rattle.tables.specs.WellFormed.{is_open}
 use Rattle.rewriting.specs.declared.sides.PlaceRun.{PlaceRun}
 use Rattle.rewriting.specs.declared.sides.Side.{Side}
-use Rattle.rewriting.specs.declared.leasts.Found.{Found}
 use Rattle.rewriting.specs.Moves.{run_place, move_run, lane_train, lane_run, choices_run}
 
 -- ---- open places
@@ -38,18 +38,23 @@ pub record NonNegative (b : List ℤ) : Type 0 where
 -- ---- leasts
 
 -- with one figure more, which counts where its place is open
-abbrev pub met_one : Bool → ℕ → Found → Found
-met_one true v so = record { found = true; least = the_parts (cond so.found (min so.least.0 v) v) }
+abbrev pub met_one : Bool → ℕ → Option Parts → Option Parts
+met_one true v (Some p) = Some (the_parts (min p.0 v))
+met_one true v None = Some (the_parts v)
 met_one false v so = so
 
--- what is found among f 0 to f (n - 1), of which those count where o holds
-unfoldable pub found_of : ℕ → (ℕ → Bool) → (ℕ → ℕ) → Found
-found_of zero o f = record { found = false; least = the_parts 0 }
+-- the least of f 0 to f (n - 1), of which those count where o holds, if one does
+unfoldable pub found_of : ℕ → (ℕ → Bool) → (ℕ → ℕ) → Option Parts
+found_of zero o f = None
 found_of (suc n) o f = met_one (o n) (f n) (found_of n o f)
 
 -- 'Least costs are taken over permitted entries; where there are none, nothing moves': 0 then
+abbrev pub figure_of : Option Parts → ℕ
+figure_of (Some p) = p.0
+figure_of None = 0
+
 abbrev pub least_open : ℕ → (ℕ → Bool) → (ℕ → ℕ) → ℕ
-least_open n o f = (found_of n o f).least.0
+least_open n o f = figure_of (found_of n o f)
 
 -- the least open figure of a run
 unfoldable pub run_least : PlaceRun → List ℤ → ℕ

@@ -2,44 +2,16 @@
 ghost use Rattle.std.specs.Prelude.{◌≡◌, ◌<◌, ◌^◌};
 ghost use Rattle.tables.specs.Block.{trains, pairs, size};
 ghost use Rattle.rewriting.specs.Moves.{RunIn, Room, ShapeInRange, lane_train};
-ghost use Rattle.rewriting.specs.Leasts.{HeldPlace, HeldRun, mate_place, NonNegative, met_one, run_least, run_tightened, lane_tightened, lanes_tightened, train_tightened};
+ghost use Rattle.rewriting.specs.Leasts.{HeldPlace, HeldRun, mate_place, NonNegative, run_least, run_tightened, lane_tightened, lanes_tightened, train_tightened};
 
 use crate::sides::{PlaceRun, Side};
 use crate::{moves, sides};
-use tables::block::Block;
+use tables::block::{Block, Places};
 use tables::places;
 use units::Parts;
 
-// The least of the figures met so far, if there is one; else 0.
-#[derive(Clone, Copy)]
-pub struct Found {
-    pub found: bool,
-    pub least: Parts,
-}
-
-// With one figure more, which counts where its place is open.
-fn met_one(counts: bool, x: Parts, so: Found) -> Found
-    ensures { result ≡ met_one counts x.0 so }
-{
-    if !counts {
-        return so;
-    }
-    let least = so.least;
-    if so.found {
-        if least.at_most(x) {
-            return Found {
-                found: true,
-                least: least,
-            };
-        }
-    }
-    Found {
-        found: true,
-        least: x,
-    }
-}
-
 // Where H has the cost of a place of T.
+#[tactic(auto, unfolding(crate::specs::Leasts::mate_place))]
 fn mate_place(p: usize) -> usize
     requires { HeldPlace p }
     ensures { result ≡ mate_place p }
@@ -51,59 +23,59 @@ fn mate_place(p: usize) -> usize
 }
 
 // The least open figure of a run, in parts; 0 where none is open.
+#[tactic(auto, unfolding(crate::specs::Leasts::run_least, crate::specs::Leasts::open_place, crate::specs::Leasts::found_of), using(crate::proofs::Opens::mate_within))]
 fn run_least(b: &[i64], run: PlaceRun) -> Parts
     requires { (RunIn b.now run) × (HeldRun run) }
     ensures { result.0 ≡ run_least run b.now }
 {
-    let mut so = Found {
-        found: false,
-        least: Parts::ZERO,
-    };
-    let mut i = 0;
-    while i < run.count {
+    let mut least = None;
+    for i in 0..run.count {
         let p = run.from + run.step * i;
-        let counts = places::is_open(b, mate_place(p));
-        let x = places::parts(b, p);
-        so = met_one(counts, x, so);
-        i += 1;
+        if places::is_open(b, mate_place(p)) {
+            let x = Parts::from(places::get(b, p));
+            least = Some(least.map_or(x, |so_far: Parts| so_far.min(x)));
+        }
     }
-    so.least
+    least.unwrap_or(Parts::ZERO)
 }
 
 // Moves the least of a run to where its costs go.
+#[tactic(auto, unfolding(crate::specs::Leasts::run_tightened), using(crate::proofs::Falls::run_least_room))]
 fn tighten_run(b: &mut [i64], run: PlaceRun)
     requires { (RunIn b.old run) × (HeldRun run) × (Room b.old (2 ^ 57)) }
     ensures { b.new ≡ run_tightened run b.old }
 {
     let least = run_least(b, run);
-    moves::move_run(b, run, least.number() as i64);
+    moves::move_run(b, run, u64::from(least) as i64);
 }
 
 // Moves the least of lane x of pair k to choice x of the side's train.
-fn tighten_lane(b: &mut [i64], k: usize, side: Side, x: usize)
+#[tactic(auto, using(crate::proofs::Shape::project_run, crate::proofs::Shape::project_held, crate::proofs::Shape::lane))]
+fn tighten_lane(b: &mut Places, k: usize, side: Side, x: usize)
     requires { (ShapeInRange b.old) × (Room b.old (2 ^ 57)) × (k < pairs b.old) × (x < size b.old (lane_train side b.old k)) }
     ensures { b.new ≡ lane_tightened side k x b.old }
 {
-    tighten_run(b, sides::lane(b, k, side, x));
+    let run = sides::lane(b, k, side, x);
+    tighten_run(b, run);
 }
 
 // Moves the least of each lane of pair k to the lane's own choice.
-pub fn tighten_lanes(b: &mut [i64], k: usize, side: Side)
+#[tactic(auto, unfolding(theory::specs::Fold::iter), using(crate::proofs::Falls::lane_asked))]
+pub fn tighten_lanes(b: &mut Places, k: usize, side: Side)
     requires { (ShapeInRange b.old) × (NonNegative b.old) × (Room b.old (2 ^ 52)) × (k < pairs b.old) }
     ensures { b.new ≡ lanes_tightened side k b.old }
 {
-    let n = sides::lanes(b, k, side);
-    let mut x = 0;
-    while x < n {
+    for x in 0..sides::lanes(b, k, side) {
         tighten_lane(b, k, side, x);
-        x += 1;
     }
 }
 
 // Moves the least of the choices of train i to the constant.
-pub fn tighten_train(b: &mut [i64], i: usize)
+#[tactic(auto, using(crate::proofs::Shape::project_run, crate::proofs::Shape::project_held, crate::proofs::Shape::unary))]
+pub fn tighten_train(b: &mut Places, i: usize)
     requires { (ShapeInRange b.old) × (Room b.old (2 ^ 57)) × (i < trains b.old) }
     ensures { b.new ≡ train_tightened i b.old }
 {
-    tighten_run(b, sides::choices(b, i));
+    let run = sides::choices(b, i);
+    tighten_run(b, run);
 }

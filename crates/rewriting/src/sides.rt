@@ -4,7 +4,7 @@ ghost use Rattle.tables.specs.Block.{trains, pairs, size};
 ghost use Rattle.rewriting.specs.Moves.{ShapeInRange, lane_train, lane_run, choices_run};
 
 use tables::block;
-use tables::block::Block;
+use tables::block::{Block, Places};
 
 // The lanes of a pair's table: its rows, each of which has a choice of the first train, and its columns, each of which has one of the second.
 #[derive(Clone, Copy)]
@@ -23,7 +23,7 @@ pub struct PlaceRun {
 }
 
 // How many lanes pair k has on a side.
-pub fn lanes(b: &[i64], k: usize, side: Side) -> usize
+pub fn lanes(b: &Places, k: usize, side: Side) -> usize
     requires { (ShapeInRange b.now) × (k < pairs b.now) }
     ensures { result ≡ size b.now (lane_train side b.now k) }
 {
@@ -34,7 +34,7 @@ pub fn lanes(b: &[i64], k: usize, side: Side) -> usize
 }
 
 // Lane x of pair k: its entries, whose costs go to choice x of the side's train.
-pub fn lane(b: &[i64], k: usize, side: Side, x: usize) -> PlaceRun
+pub fn lane(b: &Places, k: usize, side: Side, x: usize) -> PlaceRun
     requires { (ShapeInRange b.now) × (k < pairs b.now) × (x < size b.now (lane_train side b.now k)) }
     ensures { result ≡ lane_run side b.now k x }
 {
@@ -55,7 +55,7 @@ pub fn lane(b: &[i64], k: usize, side: Side, x: usize) -> PlaceRun
 }
 
 // The choices of train i, whose costs go to the constant.
-pub fn choices(b: &[i64], i: usize) -> PlaceRun
+pub fn choices(b: &Places, i: usize) -> PlaceRun
     requires { (ShapeInRange b.now) × (i < trains b.now) }
     ensures { result ≡ choices_run b.now i }
 {

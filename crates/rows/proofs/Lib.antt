@@ -1,6 +1,5 @@
 -- The laws of the crate, which callers cite: one file for each idea.
 pub mod Walled
 pub mod Written
-pub mod Parts
 pub mod Laying
 pub mod Rows

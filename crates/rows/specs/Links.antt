@@ -1,17 +1,17 @@
 -- Rows of sums: a row of eight for each train, with its choices' own costs, and one for each pair, with what its second train's choices come to so far.
-use Rattle.std.specs.Prelude.{◌≡◌, List, ◌⊎◌, ℕ, ◌+◌, ◌*◌, ◌<◌, ◌≤◌, ℤ}
-use Rattle.tables.specs.Block.{max_trains, max_choices, max_pairs, pairs, first, second}
+use Rattle.std.specs.Prelude.{◌≡◌, List, ◌⊎◌, ℕ, ◌+◌, ◌<◌, ◌≤◌, ℤ}
+use Rattle.tables.specs.Block.{max_trains, max_pairs, pairs, first, second}
 
--- where a train's own row begins, and behind all of these a pair's
+-- which row is a train's own, and behind all of these which is a pair's
 abbrev pub own_row : ℕ → ℕ
-own_row j = max_choices * j
+own_row j = j
 
 abbrev pub pair_row : ℕ → ℕ
-pair_row k = own_row max_trains + max_choices * k
+pair_row k = own_row max_trains + k
 
--- how many sums there are
-abbrev pub sums_length : ℕ
-sums_length = pair_row max_pairs
+-- how many rows there are
+abbrev pub row_count : ℕ
+row_count = pair_row max_pairs
 
 -- train j completes no pair below k, and p is its own row
 pub record Own (b : List ℤ) (j k p : ℕ) : Type 0 where

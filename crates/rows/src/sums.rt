@@ -1,97 +1,69 @@
 // What the choices of later trains come to so far, in rows of sums: a pair's row is the row before it of the same train, with the pair's costs.
-ghost use Rattle.std.specs.Prelude.{◌≡◌, ℕ, ◌+◌, ◌<◌, ◌≤◌, ◌^◌, length, get_or};
+ghost use Rattle.std.specs.Prelude.{◌≡◌, ℕ, ◌+◌, ◌<◌, ◌^◌, get_or};
 ghost use Rattle.tables.specs.Block.{max_choices};
 ghost use Rattle.rows.specs.Sums.{Carry, CarriedTo, Sums};
-ghost use Rattle.rows.specs.Links.{sums_length};
-ghost use Rattle.rows.specs.Table.{table_length, Part};
+ghost use Rattle.rows.specs.Links.{row_count};
+ghost use Rattle.rows.specs.Table.{sum_at, Owned};
 
 use crate::table;
+use crate::table::Table;
+use std::array;
+use tables::block;
 use tables::block::Block;
+use tables::held_study::HeldStudy;
 use units::Parts;
 
-// Where the pairs' rows begin among the sums; the trains' own stand before them.
-pub const PAIR_ROWS_FROM: usize = Block::CHOICES * Block::TRAINS;
-// How many sums there are: a row for each train and for each pair.
-pub const LENGTH: usize = PAIR_ROWS_FROM + Block::CHOICES * Block::PAIRS;
+// Where the pairs' rows begin; the trains' own stand before them.
+pub const PAIR_ROWS_FROM: usize = Block::TRAINS;
+// How many rows there are: one for each train and for each pair.
+pub const ROWS: usize = PAIR_ROWS_FROM + Block::PAIRS;
 
-// The row at `from`, with the partial total added to each sum.
-pub fn row_from(sums: &[u64; LENGTH], from: usize, partial: Parts) -> [u64; Block::CHOICES]
-    requires max_choices_bound { from + max_choices ≤ sums_length }
-    requires by_index { (a : ℕ) → a < max_choices → partial.0 + get_or sums.now (from + a) 0 < 2 ^ 63 }
-    ensures { Sums (λ a. partial.0 + get_or sums.now (from + a) 0) result }
+// A number for each choice of a train.
+pub type ByChoice = [u64; Block::CHOICES];
+
+// The rows of sums.
+pub type Rows = [ByChoice; ROWS];
+
+// Lays the trains' own rows. They are laid in place, as the costs of a table are.
+#[tactic(auto, using(tables::proofs::Study::trains_range))]
+pub fn lay_own(study: HeldStudy<'_>, rows: &mut Rows)
+    ensures { Owned study.entry.numbers.now rows.new }
 {
-    let so_far = partial.number();
-    let mut row = [0u64; Block::CHOICES];
-    let mut a = 0;
-    while a < Block::CHOICES {
-        row[a] = so_far + sums[from + a];
-        a += 1;
+    for j in 0..block::trains(study.numbers) {
+        let from = block::choice_place(Block::HELD_CHOICES_FROM, j, 0);
+        rows[j] = table::walled_row(study.numbers, from);
     }
-    row
 }
 
-// The row at `base`, with the eight costs from place `from` of the table on.
-fn row_with(
-    table: &[u64; table::LENGTH],
-    sums: &[u64; LENGTH],
-    base: usize,
-    from: usize,
-) -> [u64; Block::CHOICES]
-    requires max_choices_bound { (from + max_choices ≤ table_length) × (base + max_choices ≤ sums_length) }
-    requires by_index { (a : ℕ) → a < max_choices → get_or sums.now (base + a) 0 + get_or table.now (from + a) 0 < 2 ^ 63 }
-    ensures { Sums (λ a. get_or sums.now (base + a) 0 + get_or table.now (from + a) 0) result }
+// Row r, with the partial total added to each sum.
+pub fn row_from(rows: &Rows, r: usize, partial: Parts) -> ByChoice
+    requires row_count_bound { r < row_count }
+    requires by_index { (a : ℕ) → a < max_choices → partial.0 + sum_at rows.now r a < 2 ^ 63 }
+    ensures { Sums (λ a. partial.0 + sum_at rows.now r a) result }
 {
-    let mut row = [0u64; Block::CHOICES];
-    let mut a = 0;
-    while a < Block::CHOICES {
-        row[a] = sums[base + a] + table[from + a];
-        a += 1;
-    }
-    row
+    let so_far = u64::from(partial);
+    array::from_fn(|a| so_far + rows[r][a])
 }
 
-// Writes the row at `to`: that at `base`, before it, with the eight costs from place `from` of the table on.
-fn add_row(
-    table: &[u64; table::LENGTH],
-    sums: &mut [u64; LENGTH],
-    base: usize,
-    from: usize,
-    to: usize,
-)
-    requires max_choices_bound { (from + max_choices ≤ table_length) × (base + max_choices ≤ to) × (to + max_choices ≤ sums_length) × (length sums.old ≡ sums_length) }
-    requires by_index { (a : ℕ) → a < max_choices → get_or sums.old (base + a) 0 + get_or table.now (from + a) 0 < 2 ^ 63 }
-    ensures { Part (λ a v. v ≡ get_or sums.old (base + a) 0 + get_or table.now (from + a) 0) to max_choices sums.old sums.new }
+// A row with the costs of as many choices added.
+fn row_with(row: &ByChoice, costs: &ByChoice) -> ByChoice
+    requires { (a : ℕ) → a < max_choices → get_or row.now a 0 + get_or costs.now a 0 < 2 ^ 63 }
+    ensures { Sums (λ a. get_or row.now a 0 + get_or costs.now a 0) result }
 {
-    let row = row_with(table, sums, base, from);
-    let mut a = 0;
-    while a < Block::CHOICES {
-        sums[to + a] = row[a];
-        a += 1;
-    }
+    array::from_fn(|a| row[a] + costs[a])
 }
 
 // Carries the choice of train t to the rows of the pairs that t begins.
-pub fn carry(
-    table: &[u64; table::LENGTH],
-    sums: &mut [u64; LENGTH],
-    chosen: &[u8; Block::TRAINS],
-    t: usize,
-)
-    requires { Carry table.now sums.old t chosen.now }
-    ensures { CarriedTo table.now sums.old t chosen.now sums.new }
+#[tactic(auto, using(crate::proofs::Rows::carrying_room))]
+pub fn carry(table: &Table, rows: &mut Rows, chosen: &[u8; Block::TRAINS], t: usize)
+    requires { Carry table.now rows.old t chosen.now }
+    ensures { CarriedTo table.now rows.old t chosen.now rows.new }
 {
     let c = chosen[t] as usize;
-    let e = table[table::BEGINS_FROM + (t + 1)] as usize;
-    let mut k = table[table::BEGINS_FROM + t] as usize;
-    while k < e {
-        let base = table[table::BASES_FROM + k] as usize;
-        add_row(
-            table,
-            sums,
-            base,
-            Block::ENTRIES * k + Block::CHOICES * c,
-            PAIR_ROWS_FROM + Block::CHOICES * k,
+    for k in table.begins[t]..table.begins[t + 1] {
+        rows[PAIR_ROWS_FROM + k] = row_with(
+            &rows[table.bases[k]],
+            &table.costs[Block::CHOICES * k + c],
         );
-        k += 1;
     }
 }

@@ -1,101 +1,112 @@
-// The table of a search: what the walk reads of a study, each number at a place of its own.
-ghost use Rattle.std.specs.Prelude.{◌≡◌, ◌+◌, ◌≤◌, ◌<◌, length};
-ghost use Rattle.tables.specs.Block.{pairs};
-ghost use Rattle.tables.specs.WellFormed.{Study};
+// The table of a search: what the walk reads of a study.
+ghost use Rattle.std.specs.Prelude.{◌≡◌, ◌+◌, ◌≤◌, ◌<◌, ℕ, get_or};
+ghost use Rattle.tables.specs.Block.{block_length, max_trains, max_choices, pairs, size};
 ghost use Rattle.rows.specs.Walled.{walled};
-ghost use Rattle.rows.specs.Links.{sums_length};
-ghost use Rattle.rows.specs.Table.{table_length, Part, CostsLaid, Laid, Owned};
+ghost use Rattle.rows.specs.Table.{CostsLaid, Shaped, Laid};
+ghost use Rattle.rows.specs.Sums.{Sums};
 
 use crate::links;
-use tables::block::Block;
+use crate::links::Links;
+use crate::sums::ByChoice;
+use std::array;
+use tables::block::{Block, Places};
+use tables::held_study::HeldStudy;
 use tables::{block, places};
-
-// Where the sizes begin; the pairs' costs stand before them.
-pub const SIZES_FROM: usize = Block::ENTRIES * Block::PAIRS;
-// Where the rows of sums begin in which the trains' choices are summed when they are opened.
-pub const ENDS_FROM: usize = SIZES_FROM + Block::TRAINS;
-// Where the rows of sums begin to which the pairs' costs are added.
-pub const BASES_FROM: usize = ENDS_FROM + Block::TRAINS;
-// Where the trains' first pairs begin, and behind them the end of the last train's.
-pub const BEGINS_FROM: usize = BASES_FROM + Block::PAIRS;
-// Where n stands.
-pub const TRAINS_PLACE: usize = BEGINS_FROM + Block::TRAINS + 1;
-// Where s stands.
-pub const SCALE_PLACE: usize = TRAINS_PLACE + 1;
-// Where the published bound stands.
-pub const BOUND_PLACE: usize = SCALE_PLACE + 1;
-// How many numbers a table has.
-pub const LENGTH: usize = BOUND_PLACE + 1;
+use units::{Points, Scale};
 
 // What a forbidden place counts: above every total, and so far below 2^64 that a wall for a choice and one for each pair fit.
 pub const WALL: u64 = 1 << 50;
 
+// The costs of the pairs: of each pair a row for each choice of its first train.
+pub type Costs = [ByChoice; Block::CHOICES * Block::PAIRS];
+
+// What the walk reads of a study, each figure in a field of its own.
+#[derive(Drop)]
+pub struct Table {
+    // The costs of the pairs.
+    pub costs: Costs,
+    // How many choices each train has.
+    pub sizes: [usize; Block::TRAINS],
+    // The row of sums in which each train's choices are summed when it is opened.
+    pub ends: [usize; Block::TRAINS],
+    // The row of sums to which each pair's costs are added.
+    pub bases: [usize; Block::PAIRS],
+    // The first pair of each train, and behind them the end of the last train's.
+    pub begins: [usize; Block::TRAINS + 1],
+    // n.
+    pub trains: usize,
+    // s.
+    pub scale: Scale,
+    // The published bound.
+    pub bound: Points,
+}
+
+impl Table {
+    // The table of a study, but for its costs.
+    #[tactic(auto, using(tables::proofs::Study::scale_range))]
+    pub fn new(study: HeldStudy<'_>) -> Table
+        ensures { Shaped study.entry.numbers.now result }
+    {
+        let b = study.numbers;
+        let Links { ends, bases } = links::rows(study);
+        Table {
+            costs: [[0; Block::CHOICES]; Block::CHOICES * Block::PAIRS],
+            sizes: sizes(study),
+            ends,
+            bases,
+            begins: links::begins(study),
+            trains: block::trains(b),
+            scale: block::scale(b),
+            bound: bounds::published(study),
+        }
+    }
+
+    // Lays the costs of the pairs. They are laid in place, since so long an array is copied where it is returned.
+    pub fn lay_costs(&mut self, study: HeldStudy<'_>)
+        requires { Shaped study.numbers.now self.old }
+        ensures { Laid study.entry.numbers.now self.new }
+    {
+        for k in 0..block::pairs(study.numbers) {
+            lay_pair(study, k, &mut self.costs);
+        }
+    }
+}
+
 // The number at place p, and the wall where it is forbidden.
-fn walled(b: &[i64], p: usize) -> u64
-    requires { p < length b.now }
+fn walled(b: &Places, p: usize) -> u64
+    requires { p < block_length }
     ensures { result ≡ walled b.now p }
 {
     if places::is_open(b, p) {
-        return places::natural(b, p);
-    }
-    WALL
-}
-
-// Copies `count` numbers of the block, from place `from` on, to places of a list, from `to` on. A forbidden one is copied as the wall.
-fn copy(b: &[i64], from: usize, count: usize, list: &mut [u64], to: usize)
-    requires { (from + count ≤ length b.now) × (to + count ≤ length list.old) × (length list.old ≤ table_length) }
-    ensures { Part (λ i v. v ≡ walled b.now (from + i)) to count list.old list.new }
-{
-    let mut i = 0;
-    while i < count {
-        list[to + i] = walled(b, from + i);
-        i += 1;
+        places::natural(b, p)
+    } else {
+        WALL
     }
 }
 
-// Lays the costs of the pairs: of each the rows that are used, one for each choice of its first train.
-fn lay_costs(b: &[i64], table: &mut [u64])
-    requires { (Study b.now) × (length table.old ≡ table_length) }
-    ensures { CostsLaid b.now (pairs b.now) table.old table.new }
+// Eight numbers of the block, from place `from` on, with the wall for each that is forbidden.
+pub(crate) fn walled_row(b: &Places, from: usize) -> ByChoice
+    requires { from + max_choices ≤ block_length }
+    ensures { Sums (λ a. walled b.now (from + a)) result }
 {
-    let m = block::pairs(b);
-    let mut k = 0;
-    while k < m {
-        let rows = counts::rows_of(b, k);
-        copy(
-            b,
-            Block::HELD_ENTRIES_FROM + Block::ENTRIES * k,
-            Block::CHOICES * rows,
-            table,
-            Block::ENTRIES * k,
-        );
-        k += 1;
+    array::from_fn(|a| walled(b, from + a))
+}
+
+// Lays the costs of pair k: the rows that are used, one for each choice of its first train.
+#[tactic(auto, using(tables::proofs::Study::pairs_range, tables::proofs::Counting::rows_range))]
+fn lay_pair(study: HeldStudy<'_>, k: usize, costs: &mut Costs)
+    requires { (k < pairs study.numbers.now) × CostsLaid study.numbers.now k costs.old }
+    ensures { CostsLaid study.entry.numbers.now (k + 1) costs.new }
+{
+    for c in 0..counts::rows_of(study, k) {
+        let from = block::entry_place(Block::HELD_ENTRIES_FROM, k, c, 0);
+        costs[Block::CHOICES * k + c] = walled_row(study.numbers, from);
     }
 }
 
-// Lays the table of the study in a block.
-pub fn lay(b: &[i64], table: &mut [u64])
-    requires { (Study b.now) × (length table.old ≡ table_length) }
-    ensures { Laid b.now table.new }
+// How many choices each train has.
+fn sizes(study: HeldStudy<'_>) -> [usize; Block::TRAINS]
+    ensures { (t : ℕ) → t < max_trains → get_or result t 0 ≡ size study.entry.numbers.now t }
 {
-    lay_costs(b, table);
-    copy(b, Block::SIZES_FROM, block::trains(b), table, SIZES_FROM);
-    links::fill_rows(b, table);
-    links::fill_begins(b, table);
-    copy(b, Block::TRAINS_PLACE, 2, table, TRAINS_PLACE);
-    table[BOUND_PLACE] = bounds::published(b).number();
-}
-
-// Lays the trains' own rows of sums.
-pub fn lay_own(b: &[i64], sums: &mut [u64])
-    requires { (Study b.now) × (length sums.old ≡ sums_length) }
-    ensures { Owned b.now sums.new }
-{
-    copy(
-        b,
-        Block::HELD_CHOICES_FROM,
-        Block::CHOICES * block::trains(b),
-        sums,
-        0,
-    );
+    array::from_fn(|t| block::size(study.numbers, t))
 }

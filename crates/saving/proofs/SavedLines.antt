@@ -5,7 +5,7 @@ use Prim.Native.Nat.{ℕ}
 use lib.IntN.{ℤ}
 use lib.ListN.{length}
 use borrow.Author.Tests.{le-ltb}
-use Rattle.refusals.specs.declared.Verdict.TheVariants.{Fine}
+use Rattle.refusals.specs.Verdicts.{Fine}
 use Rattle.tables.specs.WellFormed.{Study}
 use Rattle.operations.specs.Load.{loaded_block}
 use Rattle.operations.specs.Saved.{saved_numbers}
@@ -18,9 +18,10 @@ use Rattle.lines.specs.Kinds.{kind_number}
 use Rattle.lines.specs.Layout.{kind_of}
 use Rattle.lines.specs.Text.{load_digits, load_bytes}
 use Rattle.lines.proofs.KindNumbers.{number_kind}
+use Rattle.kinds.specs.Lines.{study_line}
 use Rattle.kinds.specs.Load.{load_verdict, load_request}
 use Rattle.decoding.specs.Numbers.{numbers_of}
-use Rattle.reader.specs.Reading.{study_line, kind_line, line_of}
+use Rattle.reader.specs.Reading.{kind_line, line_of}
 use Rattle.reader.proofs.LineAccepted.{line_makes}
 use Rattle.reader.proofs.LineKind.{line_kind}
 use Rattle.saving.proofs.Together.{save_after_load, save_framed, save_kind, save_fine}

@@ -6,7 +6,7 @@ use Prim.Native.Nat.{ℕ, ◌*◌, ◌≤◌}
 use native.Mathlib.Omega.{arith}
 use lib.IntN.{ℤ}
 use lib.ListN.{length}
-use Rattle.refusals.specs.declared.Verdict.TheVariants.{Fine}
+use Rattle.refusals.specs.Verdicts.{Fine}
 use Rattle.tables.specs.Block.{trains, scale, pairs}
 use Rattle.tables.specs.WellFormed.{Study}
 use Rattle.tables.specs.Plans.{shape_of}
@@ -69,13 +69,13 @@ module _ {b : List ℤ} (s : Study b) where
   pub save_twice : load_digits (saved_numbers (loaded_block (numbers_of (load_digits (saved_numbers b))))) ≡ load_digits (saved_numbers b)
   save_twice = ap load_digits (rw save_numbers (saved_back (saved_range s)))
 
--- ---- what the code of a save has read
+-- ---- numbers that are those of a study
 
--- the slices with the scale are the numbers of the block
+-- lists that are the block's with its scale are so with a number that is its scale
 pub read_as : (b : List ℤ) {s : ℕ} {sizes choices firsts seconds entries : List ℕ} → s ≡ scale b → numbers (scale b) sizes choices firsts seconds entries ≡ saved_numbers b
     → numbers s sizes choices firsts seconds entries ≡ saved_numbers b
 read_as b {s} {sizes} {choices} {firsts} {seconds} {entries} e f = ap (λ (t : ℕ). numbers t sizes choices firsts seconds entries) e ∙ f
 
--- so they can be written
+-- numbers that are those of the block can be written
 pub read_writes : {b : List ℤ} → Study b → {x : Numbers} → x ≡ saved_numbers b → (n : ℕ) → length (load_digits (saved_numbers b)) ≤ n → InRange x × (2 * load_bytes x ≤ n)
 read_writes s e n h = rw e (saved_range s, omega (arith, load_length (saved_range s)))

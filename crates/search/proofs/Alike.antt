@@ -16,8 +16,7 @@ use Rattle.tables.specs.WellFormed.{Study}
 use Rattle.tables.specs.Plans.{choices_of, Shape, Costs, held_costs}
 use Rattle.tables.proofs.Study.{trains_range}
 use Rattle.rows.specs.Walled.{wall}
-use Rattle.search.specs.declared.walk.Walk.{Walk}
-use Rattle.search.specs.Walk.{barred, added, Decided, one_try, tried_from, choice_try, opened_train, at_bound}
+use Rattle.search.specs.Walk.{Walk, barred, added, Decided, one_try, tried_from, choice_try, opened_train, at_bound}
 use Rattle.search.specs.Held.{Alike, try_of}
 use Rattle.search.proofs.Barred.{barred_cong}
 use Rattle.search.proofs.Totals.{Walkable, added_cong, partial_cong}

@@ -20,8 +20,7 @@ use Rattle.tables.proofs.Study.{trains_range, first-below-second}
 use Rattle.rows.specs.Walled.{wall, walled_choice, walled_entry, walled_costs}
 use Rattle.rows.specs.Added.{row_added, sum_below}
 use Rattle.rows.proofs.Written.{kept}
-use Rattle.search.specs.declared.walk.Walk.{Walk}
-use Rattle.search.specs.Walk.{barred, pair_added, added, Decided, counted, marked_spent, whole_plan, stopped, dropped, one_try, choice_try, opened_train, no_choices, nothing_tried, walked, at_bound, searched}
+use Rattle.search.specs.Walk.{Walk, barred, pair_added, added, Decided, counted, marked_spent, whole_plan, stopped, dropped, one_try, choice_try, opened_train, no_choices, nothing_tried, walked, at_bound, searched}
 use Rattle.search.specs.Held.{try_of, choice_of, choices_from}
 use Rattle.search.proofs.Tries.{one_less, tries_cong}
 use Rattle.search.proofs.Walled.{comes_added, comes_barred}

@@ -1,7 +1,7 @@
 -- The ways of a try, by the numbers that the code holds, and the tries of a train: what an earlier try left at later trains is never looked at.
 use mathlib.Core.Path.{◌≡◌, refl, sym, ap, ◌∙◌}
 use mathlib.Core.Bool.{Bool, true, false, cond, ◌&&◌, ◌||◌}
-use mathlib.Core.List.{List, [], ◌∷◌}
+use mathlib.Core.List.{List}
 use Prim.Native.Nat.{ℕ, zero, suc, ◌+◌, ◌-◌, ◌^◌, ◌<◌, ◌≤◌}
 use native.Mathlib.Omega.{arith}
 use lib.Dec.{leb, ltb, eqb}
@@ -9,24 +9,27 @@ use lib.IntN.{ℤ}
 use lib.ListN.{get_or, set}
 use borrow.Author.Tests.{lt-ltb, le-ltb, le-leb, leb-false, lt-leb, eq-eqb, ne_eqb}
 use Rattle.units.specs.Units.{the_parts}
-use Rattle.tables.specs.Block.{max_choices, trains, size}
+use Rattle.tables.specs.Block.{max_choices, trains, constant, size}
 use Rattle.tables.specs.WellFormed.{Study}
 use Rattle.tables.specs.Plans.{choices_of, shape_of, held_costs}
-use Rattle.tables.proofs.Study.{trains_range, scale_range, pairs_range}
+use Rattle.tables.proofs.Study.{trains_range, pairs_range}
 use Rattle.rows.specs.Walled.{wall}
 use Rattle.rows.specs.Sums.{Steady, Carrying, Sums}
-use Rattle.rows.specs.Links.{sums_length}
-use Rattle.rows.specs.Table.{ends_from, trains_place, begin_of, Laid}
-use Rattle.rows.proofs.Rows.{steady_refl, summed_cong, summed_steady, end_sum, end_low}
+use Rattle.rows.specs.declared.table.Table.{Table}
+use Rattle.rows.specs.Links.{row_count}
+use Rattle.rows.specs.Table.{sum_at, begin_of, Laid, Owned}
+use Rattle.rows.proofs.Rows.{begin_next, steady_refl, steady_trans, steady_less, summed_start, summed_cong, summed_steady, end_sum, end_low}
 use Rattle.rows.proofs.Written.{kept}
-use Rattle.search.specs.declared.walk.Walk.{Walk}
-use Rattle.search.specs.Walk.{Decided, counted, whole_plan, stopped, dropped, no_choices, nothing_tried, at_bound}
-use Rattle.search.specs.Held.{unknown, to_beat, left_then, left_of, walk_of, meets_by, Priced, Becomes, Going, Alike, At, Trying, comes_to, try_of, choices_from}
+use Rattle.search.specs.declared.walk.Best.{Best}
+use Rattle.search.specs.declared.walk.Search.{Search}
+use Rattle.search.specs.Walk.{Walk, Decided, counted, whole_plan, stopped, dropped, no_choices, nothing_tried, at_bound}
+use Rattle.search.specs.Held.{left_of, walk_of, meets_by, best_by, handed_on, Going, Later, Alike, At, Trying, comes_to, try_of, choices_from}
+use Rattle.search.specs.Start.{no_best}
 use Rattle.search.proofs.Room.{comes_low}
 use Rattle.search.proofs.Walled.{comes_decided}
-use Rattle.search.proofs.Alike.{alike_next, try_alike, decided_alike}
+use Rattle.search.proofs.Alike.{alike_refl, alike_trans, alike_less, alike_set, alike_next, try_alike, decided_alike}
 use Rattle.search.proofs.Tries.{more_left}
-use Rattle.search.proofs.Studies.{study_walkable, study_limited, walled_limited, study_walled}
+use Rattle.search.proofs.Studies.{study_walkable, study_limited, walled_limited, study_walled, study_start}
 use Rattle.search.proofs.Coded.{added-row, try_stopped, try_out, try_dropped, try_whole, try_opens}
 
 -- walks whose numbers agree
@@ -35,43 +38,38 @@ same_walk : {c d : ℕ} {s r m n f g : Bool} {t u : ℕ} (plan : List ℕ) → c
 same_walk plan p q o k e = λ i. record { count = p i; spent = q i; met = o i; found = k i; best = the_parts (e i); plan = plan }
 
 -- the bound and the scale in the table are the block's
-pub laid-meets : {b : List ℤ} {l : List ℕ} → Laid b l → (total : ℕ) → meets_by l total ≡ at_bound b total
+pub laid-meets : {b : List ℤ} {l : Table} → Laid b l → (total : ℕ) → meets_by l total ≡ at_bound b total
 laid-meets p total = rw (p.s, p.bound)
-
--- so a total below the wall can be priced
-pub laid-priced : {b : List ℤ} {l : List ℕ} → Study b → Laid b l → (total : ℕ) → total < wall → Priced l total
-laid-priced s p total h =
-    record { sound = record { low = omega (arith, p.s, scale_range s); high = omega (arith, p.s, scale_range s) }; room = omega arith }
 
 -- ---- a plan that becomes the best
 
-module _ {meets : Bool} {total rest left : ℕ} {best : List ℕ} (k : Becomes meets total rest left best) where
+module _ (meets : Bool) (total rest : ℕ) (chosen : List ℕ) where
   -- what is left stays
-  pub becomes_left : left_of left best ≡ rest
-  becomes_left = by meets k.kept k.on
+  pub becomes_left : left_of (handed_on meets rest) (best_by meets total rest chosen) ≡ rest
+  becomes_left = by meets
     where
-      by : (m : Bool) → left_then best ≡ cond m rest 0 → left ≡ cond m 0 rest → left_of left best ≡ rest
-      by true e f = omega arith
-      by false e f = omega arith
+      by : (m : Bool) → cond m 0 rest + cond m rest 0 ≡ rest
+      by true = omega arith
+      by false = omega arith
 
   -- with a try left, the bound is met where the plan meets it
-  becomes_met : 0 < rest → ltb 0 (left_then best) ≡ meets
-  becomes_met h = by meets k.kept
+  becomes_met : 0 < rest → ltb 0 (cond meets rest 0) ≡ meets
+  becomes_met h = by meets
     where
-      by : (m : Bool) → left_then best ≡ cond m rest 0 → ltb 0 (left_then best) ≡ m
-      by true e = lt-ltb 0 (left_then best) (omega arith)
-      by false e = le-ltb 0 (left_then best) (omega arith)
+      by : (m : Bool) → ltb 0 (cond m rest 0) ≡ m
+      by true = lt-ltb 0 rest h
+      by false = refl
 
-  pub becomes_going : total ≤ wall → Going left best
-  becomes_going h = by meets k.kept k.on
+  pub becomes_going : total ≤ wall → Going (handed_on meets rest) (best_by meets total rest chosen)
+  becomes_going h = record { unmet = by meets; low = h }
     where
-      by : (m : Bool) → left_then best ≡ cond m rest 0 → left ≡ cond m 0 rest → Going left best
-      by true e f = record { unmet = λ q. absurd (omega arith); low = omega (arith, k.beat) }
-      by false e f = record { unmet = λ q. e; low = omega (arith, k.beat) }
+      by : (m : Bool) → 0 < cond m 0 rest → cond m rest 0 ≡ 0
+      by true q = absurd (omega arith)
+      by false q = refl
 
-module _ (b : List ℤ) (budget t a total left : ℕ) (best chosen plan : List ℕ) (most : left_of left best ≤ budget + 1) (going : Going left best) where
+module _ (b : List ℤ) (budget t a total left : ℕ) (best : Best) (chosen : List ℕ) (most : left_of left best ≤ budget + 1) (going : Going left best) where
   -- stopped, or nothing left
-  pub held_out : left ≤ 1 → walk_of budget 0 best plan ≡ try_of b budget t total chosen a (walk_of budget left best plan)
+  pub held_out : left ≤ 1 → walk_of budget 0 best ≡ try_of b budget t total chosen a (walk_of budget left best)
   unfolding walk_of
   held_out h = by left h going.unmet
     where
@@ -79,76 +77,76 @@ module _ (b : List ℤ) (budget t a total left : ℕ) (best chosen plan : List �
       still zero = refl
       still (suc n) = rw (lt-ltb 0 (suc n) (omega arith))
 
-      by : (l : ℕ) → l ≤ 1 → (0 < l → left_then best ≡ 0) → walk_of budget 0 best plan ≡ try_of b budget t total chosen a (walk_of budget l best plan)
-      by zero q f = sym (try_stopped b budget t a total chosen (walk_of budget 0 best plan) (still (left_then best)))
+      by : (l : ℕ) → l ≤ 1 → (0 < l → best.left_then ≡ 0) → walk_of budget 0 best ≡ try_of b budget t total chosen a (walk_of budget l best)
+      by zero q f = sym (try_stopped b budget t a total chosen (walk_of budget 0 best) (still (best.left_then)))
       by (suc zero) q f =
-          let z : left_then best ≡ 0 = f (omega arith) in
-          same_walk plan (omega arith) (eq-eqb (left_of 0 best) 0 (omega arith)) refl refl refl
-          ∙ sym (try_out b budget t a total chosen (walk_of budget 1 best plan) (rw (le-ltb 0 (left_then best) (omega arith)) (ne_eqb (left_of 1 best) 0 (λ e. omega arith)))
+          let z : best.left_then ≡ 0 = f (omega arith) in
+          same_walk best.plan (omega arith) (eq-eqb (left_of 0 best) 0 (omega arith)) refl refl refl
+          ∙ sym (try_out b budget t a total chosen (walk_of budget 1 best) (rw (le-ltb 0 (best.left_then) (omega arith)) (ne_eqb (left_of 1 best) 0 (λ e. omega arith)))
           (eq-eqb (budget - (left_of 1 best - 1)) budget (omega arith)))
       by (suc (suc l)) q f = absurd (omega arith)
 
   module _ (more : 1 < left) where
-    goes_on : stopped (walk_of budget left best plan) ≡ false
+    goes_on : stopped (walk_of budget left best) ≡ false
     unfolding walk_of
-    goes_on = let z : left_then best ≡ 0 = going.unmet (omega arith) in rw (le-ltb 0 (left_then best) (omega arith)) (ne_eqb (left_of left best) 0 (λ e. omega arith))
+    goes_on = let z : best.left_then ≡ 0 = going.unmet (omega arith) in rw (le-ltb 0 (best.left_then) (omega arith)) (ne_eqb (left_of left best) 0 (λ e. omega arith))
 
-    within : eqb (walk_of budget left best plan).count budget ≡ false
+    within : eqb (walk_of budget left best).count budget ≡ false
     unfolding walk_of
     within = ne_eqb (budget - (left_of left best - 1)) budget (λ e. omega arith)
 
-    once : walk_of budget (left - 1) best plan ≡ counted (walk_of budget left best plan)
+    once : walk_of budget (left - 1) best ≡ counted (walk_of budget left best)
     unfolding walk_of
-    once = same_walk plan (omega arith) (ne_eqb (left_of (left - 1) best) 0 (λ e. omega arith) ∙ sym (ne_eqb (left_of left best) 0 (λ e. omega arith))) refl refl refl
+    once = same_walk best.plan (omega arith) (ne_eqb (left_of (left - 1) best) 0 (λ e. omega arith) ∙ sym (ne_eqb (left_of left best) 0 (λ e. omega arith))) refl refl refl
 
-    pub held-dropped : to_beat best ≤ total → walk_of budget (left - 1) best plan ≡ try_of b budget t total chosen a (walk_of budget left best plan)
+    pub held-dropped : best.to_beat ≤ total → walk_of budget (left - 1) best ≡ try_of b budget t total chosen a (walk_of budget left best)
     unfolding walk_of
-    held-dropped h = once ∙ sym (try_dropped b budget t a total chosen (walk_of budget left best plan) goes_on within drops)
+    held-dropped h = once ∙ sym (try_dropped b budget t a total chosen (walk_of budget left best) goes_on within drops)
       where
         -- at the wall, or at a known best
-        by : (r : Bool) → leb wall total ≡ r → dropped (walk_of budget left best plan) r total ≡ true
+        by : (r : Bool) → leb wall total ≡ r → dropped (walk_of budget left best) r total ≡ true
         by true e = refl
-        by false e = let l : total < wall = leb-false wall total e in rw (lt-ltb (to_beat best) wall (omega arith)) (le-leb (to_beat best) total h)
+        by false e = let l : total < wall = leb-false wall total e in rw (lt-ltb (best.to_beat) wall (omega arith)) (le-leb (best.to_beat) total h)
 
-        drops : dropped (walk_of budget left best plan) (leb wall total) total ≡ true
+        drops : dropped (walk_of budget left best) (leb wall total) total ≡ true
         drops = by (leb wall total) refl
 
-    module _ (less : total < to_beat best) where
-      goes : dropped (walk_of budget left best plan) (leb wall total) total ≡ false
+    module _ (less : total < best.to_beat) where
+      goes : dropped (walk_of budget left best) (leb wall total) total ≡ false
       unfolding walk_of
-      goes = rw (lt-leb wall total (omega (arith, going.low))) (by (ltb (to_beat best) wall) refl)
+      goes = rw (lt-leb wall total (omega (arith, going.low))) (by (ltb (best.to_beat) wall) refl)
         where
-          by : (k : Bool) → ltb (to_beat best) wall ≡ k → k && leb (cond k (to_beat best) 0) total ≡ false
-          by true e = lt-leb (to_beat best) total less
+          by : (k : Bool) → ltb (best.to_beat) wall ≡ k → k && leb (cond k (best.to_beat) 0) total ≡ false
+          by true e = lt-leb (best.to_beat) total less
           by false e = refl
 
-      pub held_whole : {left₁ : ℕ} {best₁ : List ℕ} → t + 1 ≡ trains b → Becomes (at_bound b total) total (left - 1) left₁ best₁
-          → walk_of budget left₁ best₁ (set chosen t a) ≡ try_of b budget t total chosen a (walk_of budget left best plan)
+      pub held_whole : (m : Bool) → m ≡ at_bound b total → t + 1 ≡ trains b
+          → walk_of budget (handed_on m (left - 1)) (best_by m total (left - 1) (set chosen t a)) ≡ try_of b budget t total chosen a (walk_of budget left best)
       unfolding walk_of
-      held_whole {left₁} {best₁} h k = better ∙ sym (try_whole b budget t a total chosen (walk_of budget left best plan) goes_on within goes refl once h)
+      held_whole m k h = better ∙ sym (try_whole b budget t a total chosen (walk_of budget left best) goes_on within goes refl once h)
         where
-          below : ltb (to_beat best₁) wall ≡ true
-          below = lt-ltb (to_beat best₁) wall (omega (arith, k.beat, going.low))
+          below : ltb total wall ≡ true
+          below = lt-ltb total wall (omega (arith, going.low))
 
-          better : walk_of budget left₁ best₁ (set chosen t a) ≡ whole_plan (at_bound b) total (set chosen t a) (walk_of budget (left - 1) best plan)
+          better : walk_of budget (handed_on m (left - 1)) (best_by m total (left - 1) (set chosen t a)) ≡ whole_plan (at_bound b) total (set chosen t a) (walk_of budget (left - 1) best)
           better =
-              let z : left_then best ≡ 0 = going.unmet (omega arith) in
-              let f : left_of left₁ best₁ ≡ left_of (left - 1) best = omega (arith, becomes_left k) in
-              same_walk (set chosen t a) (ap (λ (n : ℕ). budget - (n - 1)) f) (ap (λ (n : ℕ). eqb n 0) f) (becomes_met k (omega arith)) below (rw below k.beat)
+              let z : best.left_then ≡ 0 = going.unmet (omega arith) in
+              let f : left_of (handed_on m (left - 1)) (best_by m total (left - 1) (set chosen t a)) ≡ left_of (left - 1) best = omega (arith, becomes_left m total (left - 1) (set chosen t a)) in
+              same_walk (set chosen t a) (ap (λ (n : ℕ). budget - (n - 1)) f) (ap (λ (n : ℕ). eqb n 0) f) (becomes_met m total (left - 1) (set chosen t a) (omega arith) ∙ k) below (rw below)
 
-      pub held_opens : {w : Walk} → Study b → t + 1 < trains b → Decided (shape_of b) (held_costs b) (t + 1) total (set chosen t a) → w ≡ choices_from b budget (t + 1) 0 total (set chosen t a) (walk_of budget (left - 1) best plan)
-          → w ≡ try_of b budget t total chosen a (walk_of budget left best plan)
-      held_opens s h d e = e ∙ sym (try_opens b budget t a total chosen (walk_of budget left best plan) goes_on within goes refl once s h d)
+      pub held_opens : {w : Walk} → Study b → t + 1 < trains b → Decided (shape_of b) (held_costs b) (t + 1) total (set chosen t a) → w ≡ choices_from b budget (t + 1) 0 total (set chosen t a) (walk_of budget (left - 1) best)
+          → w ≡ try_of b budget t total chosen a (walk_of budget left best)
+      held_opens s h d e = e ∙ sym (try_opens b budget t a total chosen (walk_of budget left best) goes_on within goes refl once s h d)
 
 -- nothing tried, and a try left for each of the budget
-pub held_start : (budget : ℕ) → walk_of budget (budget + 1) (unknown ∷ 0 ∷ []) no_choices ≡ nothing_tried
+pub held_start : (budget : ℕ) → walk_of budget (budget + 1) no_best ≡ nothing_tried
 unfolding walk_of
 held_start budget = same_walk no_choices (omega arith) (ne_eqb (budget + 1 + 0) 0 (λ e. omega arith)) refl refl refl
 
 -- ---- where a try stands
 
-module _ {b : List ℤ} {l q r : List ℕ} {t partial a sum : ℕ} {x y : List ℕ} (p : At b l q t partial x) (h : a < size b t) (e : sum ≡ comes_to b t partial x a)
-    (k : Alike t (get_or l trains_place 0) x y) (u : Steady (begin_of l t) q r) where
+module _ {b : List ℤ} {l : Table} {q r : List (List ℕ)} {t partial a sum : ℕ} {x y : List ℕ} (p : At b l q t partial x) (h : a < size b t) (e : sum ≡ comes_to b t partial x a)
+    (k : Alike t l.trains x y) (u : Steady (begin_of l t) q r) where
   -- the choices and the rows of the trains left may be any
   pub trying_at : Trying b l r t a sum y
   trying_at =
@@ -172,38 +170,38 @@ module _ {b : List ℤ} {l q r : List ℕ} {t partial a sum : ℕ} {x y : List �
       rw f (sym (more_left _ _ _ _ h))
 
 -- what choice a comes to stands in the train's row
-pub at_row : {b : List ℤ} {l q r : List ℕ} {t partial : ℕ} {x : List ℕ} → At b l q t partial x → Steady (begin_of l t) q r → (a : ℕ) → a < max_choices
-    → partial + get_or r (get_or l (ends_from + t) 0 + a) 0 ≡ comes_to b t partial x a
+pub at_row : {b : List ℤ} {l : Table} {q r : List (List ℕ)} {t partial : ℕ} {x : List ℕ} → At b l q t partial x → Steady (begin_of l t) q r → (a : ℕ) → a < max_choices
+    → partial + sum_at r (get_or l.ends t 0) a ≡ comes_to b t partial x a
 at_row {b} {l} {q} {r} {t} {partial} {x} p u a h =
     let g = p.laid.begins t (omega (arith, p.train)) in
     let e = p.laid.ends t p.train in
-    let low = end_low p.study t (begin_of l t) (get_or l (ends_from + t) 0) p.train g e in
+    let low = end_low p.study t (begin_of l t) (get_or l.ends t 0) p.train g e in
     omega (
       arith,
-      u.stays (get_or l (ends_from + t) 0 + a) (omega arith),
-      end_sum p.study (choices_of x) q t (begin_of l t) (get_or l (ends_from + t) 0) a p.train h g e p.summed,
+      ap (λ (row : List ℕ). get_or row a 0) (u.stays (get_or l.ends t 0) (omega arith)),
+      end_sum p.study (choices_of x) q t (begin_of l t) (get_or l.ends t 0) a p.train h g e p.summed,
       added-row p.study t a x p.train p.decided.whole,
     )
 
 -- so the row, with the partial total, is what the choices come to
-pub at_sums : {b : List ℤ} {l q : List ℕ} {t partial : ℕ} {x row : List ℕ} → At b l q t partial x
-    → Sums (λ a. partial + get_or q (get_or l (ends_from + t) 0 + a) 0) row → Sums (comes_to b t partial x) row
+pub at_sums : {b : List ℤ} {l : Table} {q : List (List ℕ)} {t partial : ℕ} {x row : List ℕ} → At b l q t partial x
+    → Sums (λ a. partial + sum_at q (get_or l.ends t 0) a) row → Sums (comes_to b t partial x) row
 at_sums p r = record { whole = r.whole; each = λ a h. r.each a h ∙ at_row p (steady_refl _ _) a h }
 
 -- and it fits a number of 64 bits
-pub at_room : {b : List ℤ} {l q r : List ℕ} {t partial : ℕ} {x : List ℕ} → At b l q t partial x → Steady (begin_of l t) q r → (a : ℕ) → a < max_choices
-    → partial + get_or r (get_or l (ends_from + t) 0 + a) 0 < 2 ^ 63
+pub at_room : {b : List ℤ} {l : Table} {q r : List (List ℕ)} {t partial : ℕ} {x : List ℕ} → At b l q t partial x → Steady (begin_of l t) q r → (a : ℕ) → a < max_choices
+    → partial + sum_at r (get_or l.ends t 0) a < 2 ^ 63
 at_room {b} {l} {q} {r} {t} {partial} {x} p u a h =
     omega (arith, at_row p u a h, comes_low (study_walkable p.study) (study_limited p.study) (walled_limited p.study) t a partial x p.train h p.decided)
 
 -- the train's row is one of the sums
-pub at_place : {b : List ℤ} {l q : List ℕ} {t partial : ℕ} {x : List ℕ} → At b l q t partial x → get_or l (ends_from + t) 0 + max_choices ≤ sums_length
+pub at_place : {b : List ℤ} {l : Table} {q : List (List ℕ)} {t partial : ℕ} {x : List ℕ} → At b l q t partial x → get_or l.ends t 0 < row_count
 at_place {b} {l} {q} {t} {partial} {x} p =
     let g = p.laid.begins t (omega (arith, p.train)) in
-    omega (arith, end_low p.study t (begin_of l t) (get_or l (ends_from + t) 0) p.train g (p.laid.ends t p.train), g.high, pairs_range p.study)
+    omega (arith, end_low p.study t (begin_of l t) (get_or l.ends t 0) p.train g (p.laid.ends t p.train), g.high, pairs_range p.study)
 
 -- a choice that is written, before it is carried: with no forbidden entry
-pub carrying_at : {b : List ℤ} {l q : List ℕ} {t a total : ℕ} {x : List ℕ} → Trying b l q t a total x → total < wall → Carrying b l q t (set x t a)
+pub carrying_at : {b : List ℤ} {l : Table} {q : List (List ℕ)} {t a total : ℕ} {x : List ℕ} → Trying b l q t a total x → total < wall → Carrying b l q t (set x t a)
 carrying_at {b} {l} {q} {t} {a} {total} {x} p low =
     record {
       study = p.study;
@@ -211,4 +209,47 @@ carrying_at {b} {l} {q} {t} {a} {total} {x} p low =
       train = p.train;
       below = (p.decided low).below;
       summed = summed_cong b (choices_of x) (choices_of (set x t a)) q t (begin_of l t) (p.laid.begins t (omega (arith, p.train))) (λ i h. sym (kept x t a i h)) p.summed;
+    }
+
+-- where a search starts
+pub started_at : {b : List ℤ} {l : Table} {q : List (List ℕ)} {partial : ℕ} {chosen : List ℕ} → Study b → Laid b l → Owned b q → chosen ≡ no_choices → partial ≡ constant b → At b l q 0 partial chosen
+started_at t l o f e =
+    record {
+      study = t;
+      laid = l;
+      train = (trains_range t).0;
+      decided = rw f (study_start t e);
+      summed = summed_start _ (l.begins 0 (omega arith)) o;
+    }
+
+-- ---- where a search stands later
+
+pub later_refl : {s : Search} {t left : ℕ} → Going left s.best → Later s t left left s
+later_refl g = record { table = refl; fewer = omega arith; going = g; kept = alike_refl _ _ _; steady = steady_refl _ _ }
+
+pub later_trans : {s s₁ s₂ : Search} {t left left₁ left₂ : ℕ} → Later s t left left₁ s₁ → Later s₁ t left₁ left₂ s₂ → Later s t left left₂ s₂
+later_trans e f =
+    record {
+      table = f.table ∙ e.table;
+      fewer = omega (arith, e.fewer, f.fewer);
+      going = f.going;
+      kept = alike_trans e.kept (rw e.table at f.kept);
+      steady = steady_trans e.steady (rw e.table at f.steady);
+    }
+
+-- a train's choice is tried after others
+pub trying_later : {b : List ℤ} {s s₁ : Search} {t partial left left₁ a sum : ℕ} → At b s.table.now s.sums t partial s.chosen → a < size b t → sum ≡ comes_to b t partial s.chosen a
+    → Later s t left left₁ s₁ → Trying b s₁.table.now s₁.sums t a sum s₁.chosen
+trying_later p h g e = rw e.table (trying_at p h g e.kept e.steady)
+
+-- where the next train's tries lead from here, with its choice written and carried
+pub later_opens : {b : List ℤ} {s s₁ : Search} {q : List (List ℕ)} {t left left₁ : ℕ} (a : ℕ) → Study b → Laid b s.table.now → t < trains b → Steady (begin_of s.table.now t) s.sums q
+    → 0 < left → Later (record s { sums = q; chosen = set s.chosen t a }) (t + 1) (left - 1) left₁ s₁ → Later s t left left₁ s₁
+later_opens {b} {s} {s₁} {q} {t} a o l h d g r =
+    record {
+      table = r.table;
+      fewer = omega (arith, r.fewer);
+      going = r.going;
+      kept = alike_trans (alike_set _ _ _ _ (omega (arith, l.n))) (alike_less r.kept);
+      steady = steady_trans d (steady_less (begin_next b t _ _ (l.begins t (omega arith)) (l.begins (t + 1) (omega arith))) r.steady);
     }

@@ -16,8 +16,7 @@ use Rattle.tables.specs.WellFormed.{Study}
 use Rattle.tables.specs.Plans.{Shape, Costs, IsPlan, choices_of, total, shape_of, held_costs, held_total}
 use Rattle.tables.proofs.Study.{scale_range}
 use Rattle.bounds.specs.Bounds.{bound_of}
-use Rattle.search.specs.declared.walk.Walk.{Walk}
-use Rattle.search.specs.Walk.{barred, added, Decided, counted, marked_spent, whole_plan, stopped, pick_walk, beaten, dropped, counted_try, one_try, tried_from, choice_try, opened_train, nothing_tried, walked, never, at_bound, searched}
+use Rattle.search.specs.Walk.{Walk, barred, added, Decided, counted, marked_spent, whole_plan, stopped, pick_walk, beaten, dropped, counted_try, one_try, tried_from, choice_try, opened_train, nothing_tried, walked, never, at_bound, searched}
 use Rattle.search.specs.Stops.{MeetsLeast, the_total, Sooner, searched_on}
 use Rattle.search.proofs.Barred.{permitted_plan}
 use Rattle.search.proofs.Totals.{Walkable, decided_start, decided_next, partial_whole}

@@ -1,14 +1,16 @@
--- The walk as the code holds it: the tries left, the total to beat with what was left when the bound was met, and the best plan, each by itself; and where it stands.
-use Rattle.std.specs.Prelude.{◌≡◌, Bool, cond, List, ℕ, ◌+◌, ◌-◌, ◌^◌, ◌<◌, ◌≤◌, leb, ltb, eqb, ℤ, length, get_or, set}
-use Rattle.units.specs.Units.{the_parts, the_scale, Sound, rounded_up}
+-- The walk as the code holds it: the tries left, the total to beat with what was left when the bound was met, and the best plan; and where it stands.
+use Rattle.std.specs.Prelude.{◌≡◌, Bool, cond, List, ℕ, ◌+◌, ◌-◌, ◌<◌, ◌≤◌, leb, ltb, eqb, ℤ, length, get_or, set}
+use Rattle.units.specs.Units.{the_parts, rounded_up}
 use Rattle.tables.specs.Block.{trains, size}
 use Rattle.tables.specs.WellFormed.{Study}
 use Rattle.tables.specs.Plans.{choices_of, shape_of, held_costs}
+use Rattle.rows.specs.declared.table.Table.{Table}
 use Rattle.rows.specs.Walled.{wall, walled_costs}
-use Rattle.rows.specs.Table.{trains_place, scale_place, bound_place, begin_of, Laid}
+use Rattle.rows.specs.Table.{begin_of, Laid}
 use Rattle.rows.specs.Sums.{Summed, Steady}
-use Rattle.search.specs.declared.walk.Walk.{Walk}
-use Rattle.search.specs.Walk.{added, Decided, one_try, tried_from, opened_train, at_bound}
+use Rattle.search.specs.declared.walk.Best.{Best}
+use Rattle.search.specs.declared.walk.Search.{Search}
+use Rattle.search.specs.Walk.{Walk, added, Decided, one_try, tried_from, opened_train, at_bound}
 
 -- ---- a walk by the numbers that are held
 
@@ -16,44 +18,32 @@ use Rattle.search.specs.Walk.{added, Decided, one_try, tried_from, opened_train,
 abbrev pub unknown : ℕ
 unknown = wall
 
--- what is lent for the best: the total to beat,
-abbrev pub to_beat : List ℕ → ℕ
-to_beat best = get_or best 0 0
-
--- and what was left when the bound was met, 0 before
-abbrev pub left_then : List ℕ → ℕ
-left_then best = get_or best 1 0
-
 -- what is left of the walk by `left`, the number that is handed on: one more than the tries left, and 0 once nothing more is tried
-abbrev pub left_of : ℕ → List ℕ → ℕ
-left_of left best = left + left_then best
+abbrev pub left_of : ℕ → Best → ℕ
+left_of left best = left + best.left_then
 
--- a walk by `left`, what is lent for the best, and the plan. It is spent where nothing is left
-unfoldable pub walk_of : ℕ → ℕ → List ℕ → List ℕ → Walk
-walk_of budget left best plan =
+-- a walk by `left` and the best. It is spent where nothing is left
+unfoldable pub walk_of : ℕ → ℕ → Best → Walk
+walk_of budget left best =
     record {
       count = budget - (left_of left best - 1);
       spent = eqb (left_of left best) 0;
-      met = ltb 0 (left_then best);
-      found = ltb (to_beat best) unknown;
-      best = the_parts (cond (ltb (to_beat best) unknown) (to_beat best) 0);
-      plan = plan;
+      met = ltb 0 best.left_then;
+      found = ltb best.to_beat unknown;
+      best = the_parts (cond (ltb best.to_beat unknown) best.to_beat 0);
+      plan = best.plan;
     }
 
 -- whether a total meets the bound, by what stands in the table
-abbrev pub meets_by : List ℕ → ℕ → Bool
-meets_by l total = eqb (rounded_up (get_or l scale_place 0) total) (get_or l bound_place 0)
-
--- a total can be priced by the scale that stands in the table
-pub record Priced (l : List ℕ) (total : ℕ) : Type 0 where
-  pub sound : Sound (the_scale (get_or l scale_place 0))
-  pub room : total < 2 ^ 63
+abbrev pub meets_by : Table → ℕ → Bool
+meets_by l total = eqb (rounded_up l.scale total) l.bound.0
 
 -- a whole plan becomes the best, with `rest` left: where it meets the bound nothing is handed on, and `rest` is kept
-pub record Becomes (meets : Bool) (total rest left : ℕ) (best : List ℕ) : Type 0 where
-  pub beat : to_beat best ≡ total
-  pub kept : left_then best ≡ cond meets rest 0
-  pub on : left ≡ cond meets 0 rest
+abbrev pub best_by : Bool → ℕ → ℕ → List ℕ → Best
+best_by meets total rest chosen = record { to_beat = total; left_then = cond meets rest 0; plan = chosen }
+
+abbrev pub handed_on : Bool → ℕ → ℕ
+handed_on meets rest = cond meets 0 rest
 
 -- what choice a of train t comes to, with a wall for each forbidden entry
 abbrev pub comes_to : List ℤ → ℕ → ℕ → List ℕ → ℕ → ℕ
@@ -81,7 +71,7 @@ pub record Alike (t n : ℕ) (x y : List ℕ) : Type 0 where
 -- ---- where the walk stands
 
 -- train t of the study in b is opened, l is the table of that study, and q the sums so far
-pub record At (b : List ℤ) (l q : List ℕ) (t partial : ℕ) (chosen : List ℕ) : Type 0 where
+pub record At (b : List ℤ) (l : Table) (q : List (List ℕ)) (t partial : ℕ) (chosen : List ℕ) : Type 0 where
   pub study : Study b
   pub laid : Laid b l
   pub train : t < trains b
@@ -89,7 +79,7 @@ pub record At (b : List ℤ) (l q : List ℕ) (t partial : ℕ) (chosen : List �
   pub summed : Summed b (choices_of chosen) q (begin_of l t)
 
 -- or its choice a is tried: with it, below the wall, train t is decided too
-pub record Trying (b : List ℤ) (l q : List ℕ) (t a total : ℕ) (chosen : List ℕ) : Type 0 where
+pub record Trying (b : List ℤ) (l : Table) (q : List (List ℕ)) (t a total : ℕ) (chosen : List ℕ) : Type 0 where
   pub study : Study b
   pub laid : Laid b l
   pub train : t < trains b
@@ -98,37 +88,39 @@ pub record Trying (b : List ℤ) (l q : List ℕ) (t a total : ℕ) (chosen : Li
   pub summed : Summed b (choices_of chosen) q (begin_of l t)
 
 -- nothing is left to hand on once the bound is met, and the total to beat is not above the wall
-pub record Going (left : ℕ) (best : List ℕ) : Type 0 where
-  pub unmet : 0 < left → left_then best ≡ 0
-  pub low : to_beat best ≤ wall
+pub record Going (left : ℕ) (best : Best) : Type 0 where
+  pub unmet : 0 < left → best.left_then ≡ 0
+  pub low : best.to_beat ≤ wall
 
 -- so stands some study that has this table
-pub record Opened (l q : List ℕ) (t partial : ℕ) (chosen : List ℕ) (left : ℕ) (best : List ℕ) : Type 0 where
+pub record Opened (s : Search) (t partial left : ℕ) : Type 0 where
   pub block : List ℤ
-  pub at : At block l q t partial chosen
-  pub going : Going left best
+  pub at : At block s.table.now s.sums t partial s.chosen
+  pub going : Going left s.best
 
-pub record Tried (l q : List ℕ) (t a total : ℕ) (chosen : List ℕ) (left : ℕ) (best : List ℕ) : Type 0 where
+pub record Tried (s : Search) (t a total left : ℕ) : Type 0 where
   pub block : List ℤ
-  pub at : Trying block l q t a total chosen
-  pub going : Going left best
+  pub at : Trying block s.table.now s.sums t a total s.chosen
+  pub going : Going left s.best
 
 -- ---- where it leads
 
--- what opening train t leads to: for every study that has this table and every budget, what the definition says. What is left and the total to beat never rise, and the choices and the rows before t stay
-pub record OpenedTo (l q : List ℕ) (t partial : ℕ) (chosen : List ℕ) (left : ℕ) (best plan : List ℕ) (left₁ : ℕ) (best₁ plan₁ chosen₁ q₁ : List ℕ) : Type 0 where
-  pub walk : (b : List ℤ) (budget : ℕ) → At b l q t partial chosen → left_of left best ≤ budget + 1
-      → walk_of budget left₁ best₁ plan₁ ≡ choices_from b budget t 0 partial chosen (walk_of budget left best plan)
-  pub fewer : left_of left₁ best₁ ≤ left_of left best
-  pub going : Going left₁ best₁
-  pub kept : Alike t (get_or l trains_place 0) chosen chosen₁
-  pub steady : Steady (begin_of l t) q q₁
+-- what is left and the total to beat never rise, and the table, the choices and the rows before t stay
+pub record Later (s : Search) (t left left₁ : ℕ) (s₁ : Search) : Type 0 where
+  pub table : s₁.table ≡ s.table
+  pub fewer : left_of left₁ s₁.best ≤ left_of left s.best
+  pub going : Going left₁ s₁.best
+  pub kept : Alike t s.table.now.trains s.chosen s₁.chosen
+  pub steady : Steady (begin_of s.table.now t) s.sums s₁.sums
+
+-- what opening train t leads to: for every study that has this table and every budget, what the definition says
+pub record OpenedTo (s : Search) (t partial left left₁ : ℕ) (s₁ : Search) : Type 0 where
+  pub walk : (b : List ℤ) (budget : ℕ) → At b s.table.now s.sums t partial s.chosen → left_of left s.best ≤ budget + 1
+      → walk_of budget left₁ s₁.best ≡ choices_from b budget t 0 partial s.chosen (walk_of budget left s.best)
+  pub later : Later s t left left₁ s₁
 
 -- and what trying its choice a leads to
-pub record TriedTo (l q : List ℕ) (t a total : ℕ) (chosen : List ℕ) (left : ℕ) (best plan : List ℕ) (left₁ : ℕ) (best₁ plan₁ chosen₁ q₁ : List ℕ) : Type 0 where
-  pub walk : (b : List ℤ) (budget : ℕ) → Trying b l q t a total chosen → left_of left best ≤ budget + 1
-      → walk_of budget left₁ best₁ plan₁ ≡ try_of b budget t total chosen a (walk_of budget left best plan)
-  pub fewer : left_of left₁ best₁ ≤ left_of left best
-  pub going : Going left₁ best₁
-  pub kept : Alike t (get_or l trains_place 0) chosen chosen₁
-  pub steady : Steady (begin_of l t) q q₁
+pub record TriedTo (s : Search) (t a total left left₁ : ℕ) (s₁ : Search) : Type 0 where
+  pub walk : (b : List ℤ) (budget : ℕ) → Trying b s.table.now s.sums t a total s.chosen → left_of left s.best ≤ budget + 1
+      → walk_of budget left₁ s₁.best ≡ try_of b budget t total s.chosen a (walk_of budget left s.best)
+  pub later : Later s t left left₁ s₁

@@ -1,8 +1,7 @@
 -- Document 02, change 6: when a test of totals may end a walk, and what a walk keeps that it ends.
 use Rattle.std.specs.Prelude.{◌≡◌, Bool, true, false, List, ℕ, ◌≤◌, ℤ}
 use Rattle.tables.specs.Plans.{Shape, Costs, IsPlan, total, shape_of, held_costs}
-use Rattle.search.specs.declared.walk.Walk.{Walk}
-use Rattle.search.specs.Walk.{never, walked}
+use Rattle.search.specs.Walk.{Walk, never, walked}
 
 -- no plan costs less than one whose total meets: `cost` says what a total costs (in points, say, rounded up), and never falls
 pub record MeetsLeast (s : Shape) (c : Costs) (cost : ℕ → ℕ) (meets : ℕ → Bool) : Type 0 where

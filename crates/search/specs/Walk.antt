@@ -3,11 +3,22 @@
 use Rattle.std.specs.Prelude.{◌≡◌, Bool, true, false, cond, not, ◌&&◌, ◌||◌, List, ℕ, zero, suc, ◌+◌, ◌*◌, ◌<◌, leb, eqb, ℤ, length, set, replicate}
 use Rattle.theory.specs.Sum.{sum}
 use Rattle.theory.specs.Range.{all}
+use Rattle.units.specs.declared.Parts.{Parts}
 use Rattle.units.specs.Units.{the_parts, rounded_up}
 use Rattle.tables.specs.Block.{max_trains, scale}
 use Rattle.tables.specs.Plans.{choices_of, Shape, Costs, shape_of, held_costs}
 use Rattle.bounds.specs.Bounds.{bound_of}
-use Rattle.search.specs.declared.walk.Walk.{Walk}
+
+-- ---- what a walk comes to
+
+-- the tries counted, whether the budget ran out, whether the best plan met the bound, and, where a plan was found, the best with its total; 0 while none is
+pub record Walk : Type 0 where
+  pub count : ℕ
+  pub spent : Bool
+  pub met : Bool
+  pub found : Bool
+  pub best : Parts
+  pub plan : List ℕ
 
 -- ---- what is forbidden
 

@@ -1,24 +1,29 @@
 // Document 01, 'Replies', Search: the whole search, and what it answers.
-ghost use Rattle.std.specs.Prelude.{◌≡◌, ◌≤◌, ◌<◌, ◌^◌};
-ghost use Rattle.units.specs.Units.{Sound, published};
-ghost use Rattle.tables.specs.WellFormed.{Study};
+ghost use Rattle.std.specs.Prelude.{◌≡◌, ℕ, ◌+◌, ◌≤◌, ◌<◌, ◌^◌};
+ghost use Rattle.units.specs.Units.{published};
 ghost use Rattle.tables.specs.LineLimits.{max_budget};
-ghost use Rattle.search.specs.Walk.{searched};
-ghost use Rattle.search.specs.Answer.{search_answer};
+ghost use Rattle.search.specs.Held.{left_of, walk_of};
+ghost use Rattle.search.specs.Answer.{best_shown, shown, search_answer};
 
-use crate::walk;
-use crate::walk::Walk;
-use rows::{sums, table};
+use crate::walk::{Best, Search};
+use rows::sums;
+use rows::table::Table;
 use tables::block;
 use tables::block::Block;
+use tables::held_study::HeldStudy;
 use units::{Parts, Points, Scale};
 
-// What a search answers: whether the walk ended or was spent, its tries, and the best plan where one was found, with its total and its cost.
+// What a search answers: whether the walk ended or was spent, its tries, and the best plan where one was found.
 #[derive(Clone, Copy)]
 pub struct Found {
     pub ended: bool,
     pub count: u64,
-    pub found: bool,
+    pub best: Option<BestPlan>,
+}
+
+// A best plan, with its total and its cost.
+#[derive(Clone, Copy)]
+pub struct BestPlan {
     pub total: Parts,
     pub cost: Points,
     pub plan: [u8; Block::TRAINS],
@@ -26,52 +31,49 @@ pub struct Found {
 
 // A total in points, rounded up.
 fn cost_of(s: Scale, total: Parts) -> Points
-    requires { (Sound s) × (total.0 < 2 ^ 63) }
+    requires { total.0 < 2 ^ 63 }
     ensures { result ≡ published s total }
 {
     s.bound(total)
 }
 
-// The walk from nothing tried, over the study's table.
-fn walked(b: &[i64], budget: u64) -> Walk
-    requires { (Study b.now) × (budget ≤ max_budget) }
-    ensures { result ≡ searched b.now budget }
+// The best plan, where one is known.
+fn best_plan(s: Scale, best: &Best) -> Option<BestPlan>
+    ensures { (budget left : ℕ) → result ≡ best_shown s (walk_of budget left best.now) }
 {
-    let mut table = [0u64; table::LENGTH];
-    table::lay(b, &mut table);
-    let mut sums = [0u64; sums::LENGTH];
-    table::lay_own(b, &mut sums);
-    let mut chosen = [0u8; Block::TRAINS];
-    let mut plan = [0u8; Block::TRAINS];
-    let mut best = [Walk::UNKNOWN, 0];
-    let left = walk::open_train(
-        &table,
-        &mut sums,
-        &mut chosen,
-        &mut plan,
-        &mut best,
-        0,
-        block::constant(b),
-        budget + 1,
-    );
-    Walk::held(budget, left, best, plan)
+    if best.to_beat >= Best::UNKNOWN {
+        return None;
+    }
+    let total = Parts::from(best.to_beat);
+    Some(BestPlan {
+        total,
+        cost: cost_of(s, total),
+        plan: best.plan,
+    })
+}
+
+// What the walk with so much left, and with this best, comes to.
+fn answer_of(s: Scale, budget: u64, left: u64, best: &Best) -> Found
+    requires { (left_of left best.now ≤ budget + 1) × (budget ≤ max_budget) }
+    ensures { result ≡ shown s (walk_of budget left best.now) }
+{
+    let rest = left + best.left_then;
+    Found {
+        ended: rest != 0,
+        count: budget - rest.saturating_sub(1),
+        best: best_plan(s, best),
+    }
 }
 
 // The best plan that the budget lets the walk find.
-pub fn search(block: &[i64], budget: u64) -> Found
-    requires { (Study block.now) × (budget ≤ max_budget) }
-    ensures { result ≡ search_answer block.now budget }
+pub fn search(study: HeldStudy<'_>, budget: u64) -> Found
+    requires { budget ≤ max_budget }
+    ensures { result ≡ search_answer study.entry.numbers.now budget }
 {
-    let w = walked(block, budget);
-    let total = w.best;
-    let cost = cost_of(block::scale(block), total);
-    let plan = w.plan;
-    Found {
-        ended: !w.spent,
-        count: w.count,
-        found: w.found,
-        total,
-        cost,
-        plan,
-    }
+    let mut table = Table::new(study);
+    table.lay_costs(study);
+    let mut walk = Search::new(&table);
+    sums::lay_own(study, &mut walk.sums);
+    let left = walk.open_train(0, block::constant(study.numbers), budget + 1);
+    answer_of(table.scale, budget, left, &walk.best)
 }

@@ -6,22 +6,21 @@ ghost use Rattle.service.specs.Answer.{answer};
 use refusals::Refusal;
 use replies::replies::write_refusal;
 use requests::line;
-use tables::block::Block;
-use tables::well_formed::NewBlock;
 
 // The smallest reply buffer, in characters.
 pub const MIN_BUFFER: usize = 72;
 
 // Answers a call, and returns how many characters the reply has.
+#[tactic(auto, unfolding(crate::specs::Answer::answer), using(tables::proofs::Study::other_length, replies::proofs::Writing::wrote_none))]
 pub fn respond(line: &[u8], block: &mut [i64], reply: &mut [u8]) -> usize
     ensures { Answers (answer line.now block.old reply.old) reply.old block.new reply.new result }
 {
     if reply.len() < MIN_BUFFER {
         return 0;
     }
-    match Block::new(block) {
-        NewBlock::Outside => write_refusal(reply, Refusal::Malformed),
-        NewBlock::Within(known) => line::answer_line(line, block, known, reply),
+    match block.as_mut_array() {
+        None => write_refusal(reply, Refusal::Malformed),
+        Some(numbers) => line::answer_line(line, numbers, reply),
     }
 }
 

@@ -9,7 +9,7 @@ use lib.IntN.{ℤ, ◌+ℤ◌, ◌-ℤ◌}
 use Rattle.theory.specs.Whole.{sumℤ}
 use Rattle.theory.specs.Fold.{iter}
 use Rattle.refusals.specs.declared.Refusal.TheVariants.{PartsOutside}
-use Rattle.refusals.specs.declared.Verdict.TheVariants.{Fine, Declined}
+use Rattle.refusals.specs.Verdicts.{Fine, Declined}
 use Rattle.tables.specs.Block.{constant_place, held_choice_place, held_entry_place, at, trains, pairs, size, first, second}
 use Rattle.tables.specs.Plans.{shape_of, held_costs}
 use Rattle.tables.specs.Counts.{moves_before, move_count}

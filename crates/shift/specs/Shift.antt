@@ -2,7 +2,7 @@
 use Rattle.std.specs.Prelude.{List, ℕ, ◌+◌, ◌≤◌, ℤ}
 use Rattle.std.specs.Int.Signed.{mag}
 use Rattle.theory.specs.Fold.{iter}
-use Rattle.refusals.specs.declared.Verdict.{Verdict}
+use Rattle.refusals.specs.Verdicts.{Verdict}
 use Rattle.tables.specs.LineLimits.{max_move}
 use Rattle.tables.specs.Plans.{shape_of}
 use Rattle.tables.specs.Counts.{moves_before}

@@ -7,57 +7,60 @@ ghost use Rattle.tables.specs.WellFormed.{Study};
 ghost use Rattle.tables.specs.Plans.{shape_of};
 ghost use Rattle.tables.specs.Counts.{pair_moves, move_count};
 ghost use Rattle.rewriting.specs.Moves.{Room, ShapeInRange, lane_train};
-ghost use Rattle.shift.specs.Shift.{SmallMoves, lifted, lanes_shifted, pair_shifted, pairs_shifted, shift_outcome, shift_block};
+ghost use Rattle.shift.specs.Shift.{SmallMoves, lifted, lanes_shifted, pair_shifted, pairs_shifted, shifted, shift_outcome, shift_block};
 
 use refusals::Verdict;
 use rewriting::sides::Side;
 use rewriting::{judging, moves, sides};
 use tables::block;
-use tables::block::Block;
+use tables::block::Places;
 
 // Shifts the held costs by the lifts, one for each train, and the moves: of each pair those of its first train, then those of its second.
-pub fn shift(block: &mut [i64], lifts: &[i64], moves: &[i64]) -> Verdict
+pub fn shift(block: &mut Places, lifts: &[i64], moves: &[i64]) -> Verdict
     requires study { (Study block.old) × (length lifts.now ≡ trains block.old) × (length moves.now ≡ move_count (shape_of block.old)) }
     requires small_moves { (SmallMoves lifts.now) × (SmallMoves moves.now) }
     ensures value { result ≡ shift_outcome lifts.now moves.now block.old }
     ensures block_after { block.new ≡ shift_block lifts.now moves.now block.old }
 {
-    let mut end = [0i64; Block::LENGTH];
-    judging::copy(&mut end, block);
-    lift_trains(&mut end, lifts);
-    shift_pairs(&mut end, moves);
-    judging::settle(block, &mut end)
+    judging::attempt(
+        block,
+        |end: &mut Places|
+            requires study { (Study end.old) × (length lifts.now ≡ trains end.old) × (length moves.now ≡ move_count (shape_of end.old)) }
+            requires small_moves { (SmallMoves lifts.now) × (SmallMoves moves.now) }
+            ensures { end.new ≡ shifted lifts.entry.now moves.entry.now end.old }
+        {
+            lift_trains(end, lifts);
+            shift_pairs(end, moves);
+        },
+    )
 }
 
 // Lifts u_i from the choices of each train to the constant.
-fn lift_trains(b: &mut [i64], lifts: &[i64])
+#[tactic(auto, unfolding(theory::specs::Fold::iter))]
+fn lift_trains(b: &mut Places, lifts: &[i64])
     requires { (ShapeInRange b.old) × (Room b.old max_parts) × (length lifts.now ≡ trains b.old) × (SmallMoves lifts.now) }
     ensures { b.new ≡ lifted lifts.now b.old }
 {
-    let n = block::trains(b);
-    let mut i = 0;
-    while i < n {
-        moves::project_unary(b, i, lifts[i]);
-        i += 1;
+    for (i, lift) in lifts.iter().enumerate() {
+        moves::project_unary(b, i, *lift);
     }
 }
 
 // Makes the moves of every pair.
-fn shift_pairs(b: &mut [i64], moves: &[i64])
+#[tactic(auto, unfolding(theory::specs::Fold::iter, theory::specs::Sum::sum))]
+fn shift_pairs(b: &mut Places, moves: &[i64])
     requires { (ShapeInRange b.old) × (Room b.old (2 ^ 48)) × (length moves.now ≡ move_count (shape_of b.old)) × (SmallMoves moves.now) }
     ensures { b.new ≡ pairs_shifted moves.now b.old }
 {
-    let m = block::pairs(b);
     let mut start = 0;
-    let mut k = 0;
-    while k < m {
+    for k in 0..block::pairs(b) {
         start = shift_pair(b, moves, start, k);
-        k += 1;
     }
 }
 
 // Makes the moves of pair k, which begin at `start`. The result is where those of the next pair begin.
-fn shift_pair(b: &mut [i64], moves: &[i64], start: usize, k: usize) -> usize
+#[tactic(auto, unfolding(crate::specs::Shift::pair_shifted))]
+fn shift_pair(b: &mut Places, moves: &[i64], start: usize, k: usize) -> usize
     requires shape_in_range { (ShapeInRange b.old) × (Room b.old (2 ^ 52)) × (k < pairs b.old) × (SmallMoves moves.now) }
     requires k_in_bounds { start + pair_moves (shape_of b.old) k ≤ length moves.now }
     ensures { (result ≡ start + pair_moves (shape_of b.old) k) × (b.new ≡ pair_shifted moves.now start k b.old) }
@@ -70,15 +73,13 @@ fn shift_pair(b: &mut [i64], moves: &[i64], start: usize, k: usize) -> usize
 }
 
 // Moves p_i,a from each row a of pair k to choice a of its first train, or p_j,b from each column b to choice b of its second.
-fn shift_lanes(b: &mut [i64], moves: &[i64], start: usize, k: usize, side: Side)
+#[tactic(auto, unfolding(theory::specs::Fold::iter))]
+fn shift_lanes(b: &mut Places, moves: &[i64], start: usize, k: usize, side: Side)
     requires shape_in_range { (ShapeInRange b.old) × (Room b.old (2 ^ 53)) × (k < pairs b.old) × (SmallMoves moves.now) }
     requires k_in_bounds { start + size b.old (lane_train side b.old k) ≤ length moves.now }
     ensures { b.new ≡ lanes_shifted side moves.now start k b.old }
 {
-    let n = sides::lanes(b, k, side);
-    let mut x = 0;
-    while x < n {
+    for x in 0..sides::lanes(b, k, side) {
         moves::project(b, k, side, x, moves[start + x]);
-        x += 1;
     }
 }

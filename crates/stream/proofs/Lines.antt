@@ -1,30 +1,32 @@
--- How a loop finds the end of a line: the bytes so far have no line feed, and the length of the line is counted from where the loop stands.
-use mathlib.Core.Path.{◌≡◌, refl, ap}
-use mathlib.Core.Bool.{Bool, true, false, cond}
+-- A line ends at its first line feed, and its length depends on nothing behind that.
+use mathlib.Core.Path.{◌≡◌, refl, sym, ◌∙◌, ap}
+use mathlib.Core.Bool.{Bool, true, false, not, cond}
 use mathlib.Core.List.{List, [], ◌∷◌}
-use Prim.Native.Nat.{ℕ, suc, ◌+◌, ◌<◌, ◌≤◌}
-use native.Mathlib.Numerals.{add-one}
+use Prim.Native.Nat.{ℕ, suc, ◌<◌, ◌≤◌}
+use native.Mathlib.Numerals.{one-add}
 use native.Mathlib.Omega.{arith}
-use lib.Dec.{eqb}
-use lib.ListN.{length, take, drop, get_or}
-use lib.Seq.{drop-cons, drop-length}
+use lib.Dec.{eqb, ltb}
+use borrow.Author.Tests.{ltb-false}
+use lib.ListN.{length, take}
+use Rattle.std.specs.Prelude.{unwrap_or, Some, None}
+use Rattle.std.specs.List.{position, position_or_len}
+use Rattle.std.proofs.lemmas.List.Sums.{prefix_len-le-length}
+use Rattle.std.proofs.lemmas.List.Recursion.{is_position_or_len}
 use Rattle.stream.specs.Session.{line_feed}
 use Rattle.stream.specs.Parts.{line_length}
 
-module _ (part : List ℕ) (i : ℕ) (h : i < length part) where
-  -- the byte at i is a line feed
-  pub line_ends_lem : eqb (get_or part i 0) line_feed ≡ true → line_length (drop i part) ≡ 0
-  unfolding line_length
-  line_ends_lem e = rw (drop-cons part i 0 h, e)
+-- a line feed ends a line
+abbrev pub ends_line : ℕ → Bool
+ends_line c = eqb c line_feed
 
-  -- it is none
-  pub line_goes_on : eqb (get_or part i 0) line_feed ≡ false → line_length (drop i part) ≡ suc (line_length (drop (i + 1) part))
-  unfolding line_length
-  line_goes_on e = rw (drop-cons part i 0 h, e, add-one)
-
-pub none_left : (part : List ℕ) → line_length (drop (length part) part) ≡ 0
+-- the first line feed, or else the end, is where the line ends
+pub first_line_feed : (part : List ℕ) → unwrap_or (position ends_line part) (length part) ≡ line_length part
 unfolding line_length
-none_left part = rw (drop-length part)
+first_line_feed part = go (ltb (position_or_len ends_line part) (length part)) refl ∙ sym (is_position_or_len line_length ends_line refl (λ x xs. ap (cond (ends_line x) 0) (sym (one-add (line_length xs)))) part)
+  where
+    go : (t : Bool) → ltb (position_or_len ends_line part) (length part) ≡ t → unwrap_or (cond t (Some (position_or_len ends_line part)) None) (length part) ≡ position_or_len ends_line part
+    go true e = refl
+    go false e = omega (arith, ltb-false (position_or_len ends_line part) (length part) e, prefix_len-le-length (λ c. not (ends_line c)) part)
 
 pub line_length_most : (part : List ℕ) → line_length part ≤ length part
 unfolding line_length

@@ -2,11 +2,11 @@
 -- after each step a program stands behind some parts, and what the step prints is what the definition prints next.
 use mathlib.Core.Path.{◌≡◌, refl, sym, ◌∙◌, ap}
 use mathlib.Core.List.{List, [], ◌∷◌, ◌++◌, append-nil}
-use Prim.Native.Nat.{ℕ, zero, suc, ◌+◌, ◌-◌, ◌<◌, ◌≤◌}
+use Prim.Native.Nat.{ℕ, zero, suc, ◌-◌, ◌<◌, ◌≤◌}
 use native.Mathlib.Omega.{arith}
 use lib.IntN.{ℤ}
 use lib.ListN.{length, take, drop, length-drop, drop_of_length-le}
-use lib.Seq.{take_all, take-add, drop_at, drop-drop, length-take-le}
+use lib.Seq.{take_all, length-take-le}
 use Rattle.tables.specs.WellFormed.{fresh_block}
 use Rattle.replies.proofs.Writing.{wrote_taken}
 use Rattle.requests.specs.Answer.{answered}
@@ -79,93 +79,81 @@ unfolding over_parts
 over_last s [] p = refl
 over_last s (q ∷ ps) p = over_last (over_more s q) ps p
 
-pub after_none : (line : List ℕ) → AfterParts line fresh_block 0
+pub after_none : AfterParts [] fresh_block
 unfolding over_parts
-after_none line = record { parts = []; leaves = record { within = omega arith; front = refl; left = refl } }
+after_none = record { parts = []; leaves = record { kept = refl; left = refl } }
 
-module _ {line : List ℕ} {b : List ℤ} {n : ℕ} (m : AfterParts line b n) where
-  pub after_part : (part : List ℕ) {line' : List ℕ} {b' : List ℤ} {n' : ℕ} → Leaves (over_part (take n line) b part) line' b' n' → AfterParts line' b' n'
+module _ {line : List ℕ} {b : List ℤ} (m : AfterParts line b) where
+  pub after_part : (part : List ℕ) {line' : List ℕ} {b' : List ℤ} → Leaves (over_part line b part) line' b' → AfterParts line' b'
   after_part part t =
       record {
         parts = m.parts ++ part ∷ [];
         leaves =
-            rw (over_last start m.parts part, ← m.leaves.front, ← m.leaves.left)
-            (record { within = t.within; front = t.front; left = t.left });
+            rw (over_last start m.parts part, ← m.leaves.kept, ← m.leaves.left)
+            (record { kept = t.kept; left = t.left });
       }
 
   -- a step on what is left of a part
-  module _ (part : List ℕ) {buffer line' reply : List ℕ} {b' : List ℤ} {r : Step} (t : Steps (next_line (take n line) b part) buffer line' b' reply r) where
-    pub after_step : 0 < length part → AfterParts line' b' r.kept
+  module _ (part : List ℕ) {buffer line' reply : List ℕ} {b' : List ℤ} {r : Step} (t : Steps (next_line line b part) buffer line' b' reply r) where
+    pub after_step : 0 < length part → AfterParts line' b'
     after_step h =
-        after_part (take (next_line (take n line) b part).used part)
-        (rw (over_taken (take n line) b part h)
-        (record { within = omega (arith, t.count, kept-within (take n line) b part); front = t.front; left = t.printed.block }))
+        after_part (take (next_line line b part).used part)
+        (rw (over_taken line b part h) (record { kept = t.kept; left = t.printed.block }))
 
     pub step_prints : StepPrints part b' (take r.written reply)
     step_prints =
         record {
           parts = m.parts;
-          next = rw (← m.leaves.front, ← m.leaves.left, t.printed.block, wrote_taken t.printed.reply) refl;
+          next = rw (← m.leaves.kept, ← m.leaves.left, t.printed.block, wrote_taken t.printed.reply) refl;
         }
 
   -- the end of the input
-  pub end_prints : {buffer reply : List ℕ} {b' : List ℤ} {w : ℕ} → Answers (last_answer (take n line) b) buffer b' reply w → EndPrints (take n line) b' (take w reply)
+  pub end_prints : {buffer reply : List ℕ} {b' : List ℤ} {w : ℕ} → Answers (last_answer line b) buffer b' reply w → EndPrints line b' (take w reply)
   end_prints a =
       record {
         parts = m.parts;
-        kept = sym m.leaves.front;
+        kept = sym m.leaves.kept;
         next = rw (← m.leaves.left, a.block, wrote_taken a.reply) refl;
       }
 
--- ---- a loop over the first bytes of an array
+-- ---- a loop over a part
 
--- what is left of them, as a part of the array
-pub left_of_lem : (bytes : List ℕ) (n at : ℕ) → at ≤ n → n ≤ length bytes → take (n - at) (drop at bytes) ≡ drop at (take n bytes)
-left_of_lem bytes n at h k =
-    let e : at + (n - at) ≡ n = omega arith in
-    let split = rw e at (take-add at (n - at) bytes) in
-    sym (rw split (drop_at (take at bytes) (take (n - at) (drop at bytes)) at (length-take-le at bytes (omega arith))))
+-- the loop stands before what is left of a part: that comes to the same as the whole part
+pub record InPart (s : Shown) (rest line : List ℕ) (b : List ℤ) : Type 0 where
+  pub after : AfterParts line b
+  pub lines : (over_part line b rest).line ≡ s.line
+  pub blocks : (over_part line b rest).block ≡ s.block
 
--- the loop stands at byte `at` with n characters kept: what is left of the part comes to the same as the whole part
-pub record InPart (s : Shown) (part line : List ℕ) (b : List ℤ) (n at : ℕ) : Type 0 where
-  pub within : at ≤ length part
-  pub after : AfterParts line b n
-  pub lines : (over_part (take n line) b (drop at part)).line ≡ s.line
-  pub blocks : (over_part (take n line) b (drop at part)).block ≡ s.block
+pub in_part_first : (part line : List ℕ) (b : List ℤ) → AfterParts line b → InPart (over_part line b part) part line b
+in_part_first part line b m = record { after = m; lines = refl; blocks = refl }
 
-pub in_part_first : (part line : List ℕ) (b : List ℤ) (n : ℕ) → AfterParts line b n → InPart (over_part (take n line) b part) part line b n 0
-in_part_first part line b n m = record { within = omega arith; after = m; lines = refl; blocks = refl }
-
--- the loop stands before byte `at` of the first n bytes of an array, and takes a step on what is left of them
-module _ (bytes : List ℕ) (n : ℕ) (whole : n ≤ length bytes) {s : Shown} {line : List ℕ} {b : List ℤ} {k at : ℕ} (m : InPart s (take n bytes) line b k at) where
-  module _ (more : at < n) {buffer line' reply : List ℕ} {b' : List ℤ} {r : Step} (taken : Steps (next_line (take k line) b (take (n - at) (drop at bytes))) buffer line' b' reply r) where
-    count_left : length (drop at (take n bytes)) ≡ n - at
-    count_left = length-drop at (take n bytes) ∙ ap (λ x. x - at) (length-take-le n bytes whole)
-
-    t : Steps (next_line (take k line) b (drop at (take n bytes))) buffer line' b' reply r
-    t = rw (left_of_lem bytes n at (omega arith) whole) at taken
-
-    some_left : 0 < length (drop at (take n bytes))
-    some_left = omega (arith, count_left)
-
+module _ {s : Shown} {rest line : List ℕ} {b : List ℤ} (m : InPart s rest line b) where
+  -- a step on what is left; behind it stands what it does not take
+  module _ (more : 0 < length rest) {buffer line' reply : List ℕ} {b' : List ℤ} {r : Step} (t : Steps (next_line line b rest) buffer line' b' reply r) where
     pub used_more : 0 < r.used
-    used_more = omega (arith, t.used, used_some (take k line) b (drop at (take n bytes)) some_left)
+    used_more = omega (arith, t.used, used_some line b rest more)
 
-    pub used_inside : at + r.used ≤ n
-    used_inside = omega (arith, t.used, count_left, used_within (take k line) b (drop at (take n bytes)))
+    pub used_inside : r.used ≤ length rest
+    used_inside = omega (arith, t.used, used_within line b rest)
 
-    pub in_part_next : InPart s (take n bytes) line' b' r.kept (at + r.used)
+    left_behind : take (length rest - r.used) (drop r.used rest) ≡ drop r.used rest
+    left_behind = take_all (length rest - r.used) (drop r.used rest) (omega (arith, length-drop r.used rest))
+
+    pub left_shorter : length (take (length rest - r.used) (drop r.used rest)) < length rest
+    left_shorter = rw left_behind (omega (arith, used_more, used_inside, length-drop r.used rest))
+
+    pub in_part_next : InPart s (take (length rest - r.used) (drop r.used rest)) line' b'
     in_part_next =
-        let e = over_next (take k line) b (drop at (take n bytes)) some_left in
-        record {
-          within = omega (arith, used_inside, length-take-le n bytes whole);
-          after = after_step m.after (drop at (take n bytes)) t some_left;
-          lines = rw (t.front, t.printed.block, ← drop-drop r.used at (take n bytes), t.used) (ap (λ s. s.line) (sym e) ∙ m.lines);
-          blocks = rw (t.front, t.printed.block, ← drop-drop r.used at (take n bytes), t.used) (ap (λ s. s.block) (sym e) ∙ m.blocks);
-        }
+        let e = over_next line b rest more in
+        rw left_behind
+        (record {
+          after = after_step m.after rest t more;
+          lines = rw (t.kept, t.printed.block, t.used) (ap (λ s. s.line) (sym e) ∙ m.lines);
+          blocks = rw (t.kept, t.printed.block, t.used) (ap (λ s. s.block) (sym e) ∙ m.blocks);
+        })
 
-  pub in_part_last : n ≤ at → Leaves s line b k
-  unfolding steps over_part
-  in_part_last h =
-      let e = drop_of_length-le (take n bytes) {i = at} (omega (arith, length-take-le n bytes whole)) in
-      record { within = m.after.leaves.within; front = rw e at m.lines; left = rw e at m.blocks }
+-- nothing is left
+pub in_part_last : (s : Shown) (rest line : List ℕ) (b : List ℤ) → InPart s rest line b → length rest ≡ 0 → Leaves s line b
+unfolding steps over_part
+in_part_last s [] line b m h = record { kept = m.lines; left = m.blocks }
+in_part_last s (c ∷ l) line b m h = absurd (omega arith)

@@ -3,13 +3,13 @@ use mathlib.Core.Path.{◌≡◌, refl, sym, ◌∙◌, ap}
 use mathlib.Core.Bool.{Bool, true, false}
 use mathlib.Core.Logic.{⊎_elim}
 use mathlib.Core.List.{List, [], ◌∷◌, ◌++◌, append_assoc}
-use Prim.Native.Nat.{ℕ, suc, ◌+◌, ◌-◌, ◌<◌, ◌≤◌, min}
+use Prim.Native.Nat.{ℕ, suc, ◌+◌, ◌<◌, ◌≤◌, min}
 use native.Mathlib.Nat.{eq-or-lt_of_le}
 use native.Mathlib.Omega.{arith}
 use lib.Dec.{ltb}
 use lib.IntN.{ℤ}
 use lib.ListN.{length, take, drop, set, get_or, length-take, length-append, length-replicate}
-use lib.Seq.{paste, take_all, take-take, take-append-add, take-paste, length-take-le, drop-cons, set_at}
+use lib.Seq.{take_all, take-take, take-append-add, length-take-le, drop-cons, set_at}
 use borrow.Author.Tests.{lt-ltb, le-ltb, ltb-true, ltb-false, ne_eqb}
 use Rattle.frames.specs.Frames.{max_characters}
 use Rattle.replies.specs.Wrote.{Wrote}
@@ -33,23 +33,20 @@ take_shorter a n l h = go (ltb n a) refl
     go true q = let e : min n a ≡ n = omega (arith, ltb-true n a q) in rw e (take_all a (take n l) (omega (arith, ltb-true n a q, length-take-le n l h)))
     go false q = let e : min n a ≡ a = omega (arith, ltb-false n a q) in rw e (take-take a n l (ltb-false n a q))
 
-module _ (line part : List ℕ) (kept n : ℕ) (whole : length line ≡ kept_most) (within : kept ≤ kept_most) (here : n ≤ length part) where
-  kept_there : length (take kept line) ≡ kept
-  kept_there = length-take-le kept line (omega arith)
-
-  lengthened_parts : lengthened (take kept line) n part ≡ take kept line ++ take (min n (kept_most - kept)) part
+module _ (line part : List ℕ) where
+  -- as many bytes as there is room for, behind the kept line
+  pub room_filled : (room count : ℕ) → room + length line ≡ kept_most → count ≡ min (length part) room → line ++ take count part ≡ lengthened line (length part) part
   unfolding lengthened
-  lengthened_parts =
-      let e : length (take kept line) + (kept_most - kept) ≡ kept_most = omega (arith, kept_there) in
-      rw e at (take-append-add (take kept line) (take n part) (kept_most - kept)) ∙ ap (λ x. take kept line ++ x) (take_shorter (kept_most - kept) n part here)
+  room_filled room count free most =
+      let e : length line + room ≡ kept_most = omega arith in
+      let all : take (length part) part ≡ part = take_all (length part) part (omega arith) in
+      rw (all, most, ← e, take-append-add line part room)
+      (ap (λ x. line ++ x) (sym (take_shorter room (length part) part (omega arith)) ∙ ap (take room) all))
 
-  -- what stands in front of the array once the bytes are put behind the line
-  pub kept_front : take (kept + min n (kept_most - kept)) (paste line kept part (min n (kept_most - kept))) ≡ lengthened (take kept line) n part
-  kept_front = take-paste line kept part (min n (kept_most - kept)) (omega arith) (omega arith) ∙ sym lengthened_parts
-
-  pub kept-count : kept + min n (kept_most - kept) ≡ length (lengthened (take kept line) n part)
-  kept-count =
-      rw lengthened_parts (omega (arith, kept_there, length-append (take kept line) (take (min n (kept_most - kept)) part), length-take-le (min n (kept_most - kept)) part (omega arith)))
+  -- the first n bytes of a part, as a part of their own
+  pub lengthened_front : (n : ℕ) → n ≤ length part → lengthened line (length (take n part)) (take n part) ≡ lengthened line n part
+  unfolding lengthened
+  lengthened_front n here = rw (length-take-le n part here, take_all n (take n part) (omega (arith, length-take-le n part here)))
 
 -- ---- a line that has ended
 
@@ -95,30 +92,28 @@ module _ (line : List ℕ) (b : List ℤ) (part : List ℕ) where
   unfolding next_line
   next_ended h = rw (lt-ltb (line_length part) (length part) h)
 
--- from what the functions of a step answer: the line's length, and the array with the bytes put behind the kept line
-module _ (line : List ℕ) (kept : ℕ) (b : List ℤ) (part buffer : List ℕ) (whole : length line ≡ kept_most) (within : kept ≤ kept_most) {n k : ℕ} {after : List ℕ}
-    (ends : n ≡ line_length part) (count : k ≡ kept + min n (length line - kept)) (copied : after ≡ paste line kept part (min n (length line - kept))) where
+-- from what the functions of a step answer: the line's length, and the kept line with the bytes behind it
+module _ (line : List ℕ) (b : List ℤ) (part buffer : List ℕ) {n : ℕ} {after : List ℕ} (ends : n ≡ line_length part) (grown : after ≡ lengthened line (length (take n part)) (take n part)) where
   here : n ≤ length part
   here = omega (arith, line_length_most part)
 
-  grown : take k after ≡ lengthened (take kept line) n part
-  grown = rw (count, copied, whole) (kept_front line part kept n whole within here)
+  grown_line : after ≡ lengthened line (line_length part) part
+  grown_line = grown ∙ rw (← ends) (lengthened_front line part n here)
 
-  pub steps_open : n ≡ length part → Steps (next_line (take kept line) b part) buffer after b buffer (record { used = n; kept = k; written = 0 })
+  pub steps_open : n ≡ length part → Steps (next_line line b part) buffer after b buffer (record { used = n; written = 0 })
   steps_open e =
-      rw (next_open (take kept line) b part (omega arith))
+      rw (next_open line b part (omega arith))
       (record {
         used = ends;
-        count = rw (← ends, count, whole) (kept-count line part kept n whole within here);
-        front = rw (← ends) grown;
+        kept = grown_line;
         printed = record { block = refl; reply = wrote_none };
       })
 
-  pub steps_ended : {left : List ℤ} {reply : List ℕ} {w : ℕ} → (n ≡ length part → ⊥) → Answers (answer_line (take k after) b) buffer left reply w
-      → Steps (next_line (take kept line) b part) buffer after left reply (record { used = n + 1; kept = 0; written = w })
+  pub steps_ended : {left : List ℤ} {reply : List ℕ} {w : ℕ} → (n ≡ length part → ⊥) → Answers (answer_line after b) buffer left reply w
+      → Steps (next_line line b part) buffer [] left reply (record { used = n + 1; written = w })
   steps_ended e a =
-      rw (next_ended (take kept line) b part (⊎_elim (λ (q : n ≡ length part). absurd (e q)) (λ (q : n < length part). rw (← ends) q) (eq-or-lt_of_le here)))
-      (record { used = omega (arith, ends); count = refl; front = refl; printed = rw (← ends, ← grown) a })
+      rw (next_ended line b part (⊎_elim (λ (q : n ≡ length part). absurd (e q)) (λ (q : n < length part). rw (← ends) q) (eq-or-lt_of_le here)))
+      (record { used = omega (arith, ends); kept = refl; printed = rw (← grown_line) a })
 
 -- ---- how much a step takes, prints and keeps
 
@@ -164,11 +159,11 @@ module _ (line : List ℕ) (b : List ℤ) (part : List ℕ) where
 
 -- ---- a last line without a line end
 
-module _ (line : List ℕ) (kept : ℕ) (b : List ℤ) (buffer : List ℕ) (there : kept ≤ length line) where
-  pub last_none : kept ≡ 0 → Answers (last_answer (take kept line) b) buffer b buffer 0
+module _ (line : List ℕ) (b : List ℤ) (buffer : List ℕ) where
+  pub last_none : length line ≡ 0 → Answers (last_answer line b) buffer b buffer 0
   unfolding last_answer
   last_none e = rw e (record { block = refl; reply = wrote_none })
 
-  pub last_some : {left : List ℤ} {after : List ℕ} {n : ℕ} → (kept ≡ 0 → ⊥) → Answers (answer_line (take kept line) b) buffer left after n → Answers (last_answer (take kept line) b) buffer left after n
+  pub last_some : {left : List ℤ} {after : List ℕ} {n : ℕ} → (length line ≡ 0 → ⊥) → Answers (answer_line line b) buffer left after n → Answers (last_answer line b) buffer left after n
   unfolding last_answer
-  last_some e a = rw (ne_eqb (length (take kept line)) 0 (λ z. e (omega (arith, length-take-le kept line there)))) a
+  last_some e a = rw (ne_eqb (length line) 0 e) a

@@ -4,7 +4,7 @@ use Prim.Native.Nat.{ℕ, ◌+◌, ◌*◌, ◌<◌, ◌≤◌}
 use native.Mathlib.Nat.{mul-le-mul}
 use native.Mathlib.Omega.{arith}
 use lib.IntN.{ℤ}
-use Rattle.theory.proofs.Sum.{sum_most, sum_part}
+use Rattle.theory.proofs.Sum.{sum_none, sum_more, sum_most, sum_part}
 use Rattle.tables.specs.Block.{max_trains, max_choices, max_pairs, entries_of_pair, trains, pairs, size}
 use Rattle.tables.specs.WellFormed.{Study}
 use Rattle.tables.specs.Plans.{Shape, shape_of}
@@ -31,12 +31,15 @@ module _ {b : List ℤ} (s : Study b) where
     pub columns_range : (1 ≤ columns_of (shape_of b) k) × (columns_of (shape_of b) k ≤ max_choices)
     columns_range = size_range s _ (second-below-trains s k h)
 
+    pub entries_range : pair_entries (shape_of b) k ≤ entries_of_pair
+    entries_range = mul-le-mul rows_range.1 columns_range.1
+
   -- a loop over the trains, or over the pairs, so far
   pub choices_most : (i : ℕ) → i ≤ trains b → choices_before (shape_of b) i ≤ i * max_choices
   choices_most i h = sum_most i max_choices (size b) (λ j q. (size_range s j (omega arith)).1)
 
   pub entries_most : (k : ℕ) → k ≤ pairs b → entries_before (shape_of b) k ≤ k * entries_of_pair
-  entries_most k h = sum_most k entries_of_pair (pair_entries (shape_of b)) (λ j q. mul-le-mul (rows_range j (omega arith)).1 (columns_range j (omega arith)).1)
+  entries_most k h = sum_most k entries_of_pair (pair_entries (shape_of b)) (λ j q. entries_range j (omega arith))
 
   pub moves_most : (k : ℕ) → k ≤ pairs b → moves_before (shape_of b) k ≤ k * (2 * max_choices)
   moves_most k h = sum_most k (2 * max_choices) (pair_moves (shape_of b)) (λ j q. omega (arith, rows_range j (omega arith), columns_range j (omega arith)))
@@ -53,3 +56,6 @@ module _ {b : List ℤ} (s : Study b) where
 
   pub weight_count_most : weight_count (shape_of b) ≤ max_trains * max_choices + max_pairs * entries_of_pair
   weight_count_most = omega (arith, choice_count_most, entry_count_most)
+
+-- a loop's first and next turn, and the most that it counts
+pub ruleset counting = (sum_none, sum_more, trains_range, pairs_range, size_range, rows_range, columns_range, entries_range, choices_most, entries_most, moves_most)

@@ -9,8 +9,9 @@ use lib.IntN.{ℤ, pos, negsuc}
 use borrow.Author.Tests.{lt-ltb, le-ltb, le-leb, leb-true, eqb-true}
 use Rattle.theory.proofs.Range.{both_true, not_both}
 use Rattle.units.specs.Units.{scale_min, scale_max}
+use Rattle.tables.specs.declared.place_limits.Limits.{Limits}
 use Rattle.tables.specs.Block.{max_trains, max_choices, max_pairs, max_cost, max_parts, trains_place, scale_place, pairs_place, sizes_from, firsts_from, seconds_from, loaded_choices_from, held_choices_from, loaded_entries_from, held_entries_from, entries_of_pair, at, nat, figure, trains, pairs, size, first, second}
-use Rattle.tables.specs.WellFormed.{Limits, from_to, cost_to, within, is_open, used_if, choice_used, entry_used, head_limits, shape_limits, cost_limits, limits_at}
+use Rattle.tables.specs.WellFormed.{from_to, cost_to, within, is_open, used_if, choice_used, entry_used, head_limits, shape_limits, cost_limits, limits_at}
 
 -- ---- within
 

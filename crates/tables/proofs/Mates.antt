@@ -1,15 +1,16 @@
 -- The tables of H and T side by side: one pass over both is a test at each place, and only used places need it.
 use mathlib.Core.Path.{◌≡◌, refl, sym, ap, ap₂, ◌∙◌}
-use mathlib.Core.Bool.{Bool, true, false, cond, not, ◌&&◌, and-true}
+use mathlib.Core.Bool.{Bool, true, false, cond, not, ◌&&◌, and-true, and_assoc}
 use mathlib.Core.List.{List, [], ◌∷◌}
 use Prim.Native.Nat.{ℕ, zero, suc, ◌+◌, ◌*◌, ◌-◌, ◌/◌, ◌<◌, ◌≤◌}
 use native.Mathlib.Nat.{zero-add}
 use native.Mathlib.Omega.{arith}
 use borrow.Author.Tests.{le-ltb}
 use lib.IntN.{ℤ, pos, negsuc}
-use lib.ListN.{length, drop}
+use lib.ListN.{length, take, drop}
 use Rattle.theory.specs.Range.{all}
 use Rattle.theory.proofs.Range.{both_true, all_true, all_intro, all_split, all_cong, all_head, pass_all}
+use Rattle.theory.proofs.Lists.{part_length, part_at}
 use Rattle.tables.specs.Block.{block_length, max_trains, max_choices, max_pairs, max_cost, max_parts, entries_of_pair, loaded_choices_from, held_choices_from, loaded_entries_from, held_entries_from, at, trains, pairs}
 use Rattle.tables.specs.WellFormed.{from_to, cost_to, used_if, choice_used, entry_used, limits_at, place_right, places_right, is_open, mate, mates, mated}
 use Rattle.tables.specs.Rows.{run_mated, right_at}
@@ -35,15 +36,6 @@ pub mate_same : (x y u v : ℤ) → is_open u ≡ is_open x → is_open v ≡ is
 unfolding mate
 mate_same x y u v e f = ap₂ (λ (s t : Bool). cond s t (not t)) e f
 
--- by one test of each
-pub mate-one_open : (x y : ℤ) {r s : Bool} → r ≡ is_open y → s ≡ is_open x → s ≡ true → r ≡ mate x y
-unfolding mate
-mate-one_open x y p q e = rw (sym q ∙ e) p
-
-pub mate-one-closed : (x y : ℤ) {r s : Bool} → r ≡ is_open y → s ≡ is_open x → s ≡ false → not r ≡ mate x y
-unfolding mate
-mate-one-closed x y p q e = rw (sym q ∙ e) (ap not p)
-
 -- ---- two tables
 
 at_drop : (n : ℕ) (l : List ℤ) (k : ℕ) → at (drop n l) k ≡ at l (n + k)
@@ -67,6 +59,34 @@ run_mated_lem b from to n = mates-all n (drop from b) (drop to b) ∙ all_cong n
 mated_runs : (b : List ℤ) → mated b ≡ run_mated b loaded_choices_from held_choices_from (max_trains * max_choices) && run_mated b loaded_entries_from held_entries_from (max_pairs * entries_of_pair)
 unfolding mated
 mated_runs b = ap₂ ◌&&◌ (run_mated_lem b loaded_choices_from held_choices_from (max_trains * max_choices)) (run_mated_lem b loaded_entries_from held_entries_from (max_pairs * entries_of_pair))
+
+-- ---- a pass over two tables
+
+-- m is what the numbers so far gave, a and b are those that are still to come, and t is what is asked of all
+pub record Passing (m : Bool) (a b : List ℤ) (t : Bool) : Type 0 where
+  pub even : length a ≡ length b
+  pub joined : m && mates (length a) a b ≡ t
+
+pub passing_start : (b p q : List ℤ) (from to n : ℕ) → from + n ≤ length b → to + n ≤ length b
+    → p ≡ take (from + n - from) (drop from b) → q ≡ take (to + n - to) (drop to b) → Passing true p q (run_mated b from to n)
+passing_start b p q from to n h g d e =
+    let l = part_length b from n h in
+    record {
+      even = rw (d, e) (l ∙ sym (part_length b to n g));
+      joined = rw (d, e, l) (mates-all n _ _ ∙ all_cong n _ _ (λ k q. ap₂ mate (part_at b from n k (pos 0) q) (part_at b to n k (pos 0) q)));
+    }
+
+pub passing_step : {m r t : Bool} {a b c d : List ℤ} {x y : ℤ} → Passing m a b t → a ≡ x ∷ c → b ≡ y ∷ d → r ≡ mate x y → Passing (m && r) c d t
+unfolding mates
+passing_step {m} {r} {t} {a} {b} {c} {d} {x} {y} p e f g =
+    record {
+      even = omega (arith, p.even, ap length e, ap length f);
+      joined = rw g (and_assoc m (mate x y) (mates (length c) c d)) ∙ rw (e, f) at p.joined;
+    }
+
+pub passing_end : {m t : Bool} {a b : List ℤ} → Passing m a b t → length a ≡ 0 → m ≡ t
+unfolding mates
+passing_end {m} p e = sym (and-true m) ∙ rw e at p.joined
 
 -- ---- unused places
 

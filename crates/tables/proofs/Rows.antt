@@ -9,12 +9,18 @@ use lib.Dec.{leb, ltb, eqb}
 use lib.IntN.{ℤ, pos, negsuc}
 use lib.ListN.{length}
 use borrow.Author.Tests.{lt-ltb, le-ltb, eq-eqb, eqb-true, leb-true}
+use mir.Syntax.{w64}
+use mir.Val.{SFits, of_z}
+use Rattle.std.proofs.iter.Serving.{serving}
+use Rattle.std.proofs.lemmas.Int.{to_z-of_z}
 use Rattle.theory.specs.Range.{all}
-use Rattle.theory.proofs.Range.{both_true, bool_ext, all_true, all_split, all-rows, all_cong, pass_all}
+use Rattle.theory.proofs.Range.{both_true, bool_ext, all_true, all_false, all_split, all-rows, all_cong, pass_all}
 use Rattle.units.specs.Units.{scale_min, scale_max}
+use Rattle.tables.specs.declared.place_limits.Limits.{Limits}
 use Rattle.tables.specs.Block.{block_length, max_trains, max_choices, max_pairs, max_cost, max_parts, trains_place, scale_place, pairs_place, constant_place, size_place, first_place, second_place, sizes_from, firsts_from, seconds_from, loaded_choices_from, held_choices_from, loaded_entries_from, held_entries_from, entries_of_pair, at, figure, trains, pairs, size, first, second}
-use Rattle.tables.specs.WellFormed.{Limits, from_to, cost_to, within, used_if, choice_used, entry_used, head_limits, limits_at, place_right, places_right, is_zero, is_fresh}
+use Rattle.tables.specs.WellFormed.{from_to, cost_to, within, used_if, choice_used, entry_used, head_limits, limits_at, place_right, places_right, is_zero, is_fresh}
 use Rattle.tables.specs.Rows.{run_within, row_within, right_at, head_right, shape_right, choices_used, choices_within, entries_used, pair_within, entries_within}
+use Rattle.tables.proofs.Signed.{bits_none}
 use Rattle.tables.proofs.Limits.{within-figure, choice_used_lem, entry_used_lem, entry_absent, limits_head, limits-size, limits-first, limits-second, limits_loaded_choices, limits-held_choices, limits_loaded_entries, limits-held_entries}
 
 -- ---- one row
@@ -39,6 +45,12 @@ zero-within (negsuc n) = refl
 pub fresh_run : (b : List ℤ) → is_fresh b ≡ run_within b 0 (length b) (from_to 0 0)
 unfolding is_fresh
 fresh_run b = pass_all (λ p z. is_zero z) (pos 0) b ∙ all_cong (length b) _ _ (λ k h. rw zero-add (zero-within (at b k)))
+
+-- where the first number is not 0, the others do not matter
+pub fresh_first : (b : List ℤ) → SFits w64 (at b 0) → 0 < length b → eqb (of_z w64 (at b 0)) 0 ≡ false → is_fresh b ≡ false
+fresh_first b f h e = fresh_run b ∙ all_false _ (length b) 0 h (sym (bits_none (at b 0) f) ∙ e)
+
+pub ruleset fresh = (fresh_run, fresh_first)
 
 -- ---- tables of rows
 
@@ -115,6 +127,8 @@ module _ (b : List ℤ) where
         limits_head b constant_place (omega arith),
       )
 
+  pub ruleset head = (head_places, to_z-of_z)
+
   pub shape_rows : shape_right b
       ≡ head_right b && row_within b sizes_from max_trains (trains b) (from_to 1 max_choices)
       && row_within b firsts_from max_pairs (pairs b) (from_to 0 (max_trains - 1))
@@ -161,6 +175,9 @@ module _ (b : List ℤ) (n : ℕ) (e : all n (right_at b) ≡ true) where
       (most trains_place _ (omega arith) (limits_head b trains_place (omega arith)), most pairs_place _ (omega arith) (limits_head b pairs_place (omega arith)))
 
 module _ (b : List ℤ) (e : shape_right b ≡ true) where
+  pub pairs_most : pairs b ≤ max_pairs
+  pairs_most = (head_most b loaded_choices_from e (omega arith)).1
+
   pub size_most : (i : ℕ) → i < max_trains → size b i ≤ max_choices
   size_most i h = omega (arith, most b loaded_choices_from e (size_place i) _ (omega arith) (limits-size b i h), used_high (ltb i (trains b)) 1 max_choices)
 
@@ -178,3 +195,9 @@ module _ (b : List ℤ) (e : shape_right b ≡ true) where
   entries_most k a h =
       if_most (ltb k (pairs b)) _ max_choices
       (if_most (ltb a (size b (first b k))) (size b (second b k)) max_choices (size_most (second b k) (pair_trains k h).1))
+
+-- what is known of a block once its shape is right, and of its tables
+pub ruleset study = (places_tables, pairs_most)
+
+-- what the loops over rows ask at each row
+pub ruleset row_calls = (serving, choices_most, entries_most)

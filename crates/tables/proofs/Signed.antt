@@ -1,55 +1,90 @@
--- A signed number of 64 bits that is read as a natural one. Above these laws no proof sees ℤ.
-use mathlib.Core.Path.{◌≡◌, refl, sym, ap, ◌∙◌}
-use mathlib.Core.Bool.{Bool, true, false, ◌&&◌, and-true, and-false}
-use Prim.Native.Nat.{ℕ, ◌<◌, ◌^◌}
+-- Signed numbers of 64 bits: what the code's tests, casts and joined bits say of them.
+use mathlib.Core.Path.{◌≡◌, refl, sym, ap, ap₂, ◌∙◌}
+use mathlib.Core.List.{List}
+use mathlib.Core.Bool.{Bool, true, ◌&&◌}
+use Prim.Native.Nat.{ℕ, zero, suc, ◌+◌, ◌-◌, ◌<◌, ◌^◌}
 use native.Mathlib.Omega.{arith}
-use borrow.Author.Rules.{sfits_of}
-use borrow.Author.Tests.{ltb-true, ltb-false, le-ltb, eqb-true, eq-eqb, ne_eqb}
+use borrow.Author.Tests.{le-leb, lt-ltb, eqb-true, eq-eqb}
 use lib.Bits.{bit_or, or_add_and, and_le_l, and_le_r}
-use lib.Dec.{T, leb, eqb}
+use lib.Dec.{leb, eqb}
 use lib.IntN.{ℤ, pos, negsuc, nat_abs}
-use lib.Signed.{mag, lt_z, non_neg}
-use mir.Facts.{to_z-of_z}
+use lib.ListN.{get_or, take, drop}
+use lib.Signed.{mag, le_z}
+use Rattle.std.proofs.lemmas.Int.{to_z-of_z, to_z_pos}
+use mir.Facts.{Fits-or, of_z-to_z}
 use mir.Syntax.{w64}
-use mir.Val.{Fits, to_z, of_z}
-use Rattle.theory.proofs.Range.{both_true, bool_ext}
+use mir.ValLaws.{of_z_fits}
+use mir.Val.{Fits, SFits, to_z, of_z}
+use Rattle.std.specs.Int.{int_max, FitsUnsignedBits}
+use Rattle.std.specs.Ordering.{is_le, nat_cmp}
+use Rattle.std.proofs.lemmas.Bool.Decides.{nat_tests}
+use Rattle.theory.proofs.Range.{both_true, bool_ext, all_next}
+use Rattle.theory.proofs.Lists.{part_at}
+use Rattle.tables.specs.declared.place_limits.Limits.{Limits}
 use Rattle.tables.specs.Block.{nat}
-use Rattle.tables.specs.WellFormed.{Limits, from_to, within, is_open}
+use Rattle.tables.specs.WellFormed.{from_to, within, is_open}
+use Rattle.tables.specs.Rows.{run_within}
 use Rattle.tables.proofs.Limits.{within_parts, within_high}
 
-negative : (z : ℤ) → lt_z z (pos 0) ≡ true → nat z ≡ 0
-negative (pos n) e = let h : n < 0 = ltb-true n 0 e in absurd (omega arith)
-negative (negsuc n) e = refl
-
-negative_closed : (z : ℤ) → lt_z z (pos 0) ≡ true → is_open z ≡ false
+-- a number is open where it is not below 0
+sign_open : (z : ℤ) → le_z (pos 0) z ≡ is_open z
 unfolding is_open
-negative_closed (pos n) e = let h : n < 0 = ltb-true n 0 e in absurd (omega arith)
-negative_closed (negsuc n) e = refl
+sign_open (pos n) = le-leb 0 n (omega arith)
+sign_open (negsuc n) = refl
 
-natural_open : (z : ℤ) → lt_z z (pos 0) ≡ false → is_open z ≡ true
-unfolding is_open
-natural_open (pos n) e = refl
-natural_open (negsuc n) e = let h : ◌≡◌ {A = ℕ} 0 1 = cc in absurd (omega arith)
+pub not_below_open : (z : ℤ) → SFits w64 z → le_z (pos 0) (to_z w64 (of_z w64 z)) ≡ is_open z
+not_below_open z f = rw (to_z-of_z w64 z f) (sign_open z)
 
--- of the numbers below 0 only −1 may be within limits
-below_one : (l : Limits) (z : ℤ) → lt_z z (negsuc 0) ≡ true → within l z ≡ false
+-- the greater of a number and 0 is the number as a natural one
+greater : (z : ℤ) → int_max z (pos 0) ≡ pos (nat z)
+greater (pos zero) = refl
+greater (pos (suc n)) = rw (lt-ltb 0 (suc n) (omega arith))
+greater (negsuc n) = refl
+
+nat_fits : (z : ℤ) → mag z < 2 ^ 63 → nat z < 2 ^ 63
+nat_fits (pos n) h = h
+nat_fits (negsuc n) h = omega arith
+
+pub max_nat : (z m : ℤ) → SFits w64 z → m ≡ int_max (to_z w64 (of_z w64 z)) (pos 0) → nat_abs (to_z w64 (of_z w64 m)) ≡ nat z
+max_nat z m f e =
+    let h : m ≡ pos (nat z) = e ∙ ap (λ (y : ℤ). int_max y (pos 0)) (to_z-of_z w64 z f) ∙ greater z in
+    rw (h, to_z_pos w64 (nat z) (nat_fits z f.sfits))
+
+-- ---- within limits
+
+-- a comparison of natural numbers as the code has it
+cmp_le : (x y : ℕ) → is_le (nat_cmp x y) ≡ leb x y
+cmp_le x y = grind (arith, nat_tests)
+
+natural : (l : Limits) (z : ℤ) → FitsUnsignedBits 64 z → within l z ≡ leb l.low (nat_abs z) && leb (nat_abs z) l.high
 unfolding within
-below_one l (pos n) e = let h : ◌≡◌ {A = ℕ} 0 1 = cc in absurd (omega arith)
-below_one l (negsuc n) e = rw (ne_eqb n 0 (λ q. omega (arith, ltb-true 0 n e))) (and-false l.closable)
+natural l (pos n) g = refl
+natural l (negsuc n) g = absurd g
 
-minus_one : (l : Limits) (z : ℤ) → lt_z z (pos 0) ≡ true → lt_z z (negsuc 0) ≡ false → within l z ≡ l.closable
+negative : (l : Limits) (z : ℤ) → SFits w64 z → (FitsUnsignedBits 64 z → ⊥) → within l z ≡ l.closable && eqb (of_z w64 z) (of_z w64 (negsuc 0))
 unfolding within
-minus_one l (pos n) e f = let h : n < 0 = ltb-true n 0 e in absurd (omega arith)
-minus_one l (negsuc n) e f = rw (eq-eqb n 0 (omega (arith, ltb-false 0 n f))) (and-true l.closable)
+negative l (pos n) f g = absurd (g (omega (arith, f.sfits)))
+negative l (negsuc n) f g =
+    ap (λ (t : Bool). l.closable && t)
+    (bool_ext (eqb n 0) _ (λ e. eq-eqb _ _ (omega (arith, eqb-true n 0 e))) (λ e. eq-eqb n 0 (omega (arith, f.sfits, eqb-true _ _ e))))
 
-natural : (z : ℤ) → mag z < 2 ^ 63 → lt_z z (pos 0) ≡ false → (z ≡ pos (nat z)) × (nat z < 2 ^ 63)
-natural (pos n) g e = (refl, g)
-natural (negsuc n) g e = let h : ◌≡◌ {A = ℕ} 0 1 = cc in absurd (omega arith)
+module _ (l : Limits) (z : ℤ) (f : SFits w64 z) where
+  -- a number that is natural is compared as a natural one
+  pub natural-within : (n : ℕ) → FitsUnsignedBits 64 (to_z w64 (of_z w64 z)) → n ≡ nat_abs (to_z w64 (of_z w64 z))
+      → within l z ≡ is_le (nat_cmp l.low n) && is_le (nat_cmp n l.high)
+  natural-within n g e = rw (cmp_le l.low n, cmp_le n l.high, e, to_z-of_z w64 z f) (natural l z (rw (to_z-of_z w64 z f) at g))
 
--- what a test of a natural number says of the signed one
-within_pos : (l : Limits) (n : ℕ) → within l (pos n) ≡ leb l.low n && leb n l.high
+  -- of the other numbers only −1 may be within limits
+  pub negative-within : (FitsUnsignedBits 64 (to_z w64 (of_z w64 z)) → ⊥) → within l z ≡ l.closable && eqb (of_z w64 z) (of_z w64 (negsuc 0))
+  negative-within g = negative l z f (rw (to_z-of_z w64 z f) at g)
+
+pub ruleset allowed = (natural-within, negative-within)
+
+-- ---- the bits of a number
+
+within_zero : (n : ℕ) → within (from_to 0 0) (pos n) ≡ leb 0 n && leb n 0
 unfolding within
-within_pos l n = refl
+within_zero n = refl
 
 within_none : (z : ℤ) → within (from_to 0 0) z ≡ true → z ≡ pos 0
 within_none z e =
@@ -69,51 +104,29 @@ or_none a b = bool_ext (eqb (bit_or a b) 0) (eqb a 0 && eqb b 0) both joined
     joined : eqb a 0 && eqb b 0 ≡ true → eqb (bit_or a b) 0 ≡ true
     joined e = let h = both_true (eqb a 0) (eqb b 0) e in rw (eqb-true a 0 h.0, eqb-true b 0 h.1)
 
-module _ (z : ℤ) (g : mag z < 2 ^ 63) where
-  back : to_z w64 (of_z w64 z) ≡ z
-  back = to_z-of_z {w = w64} (sfits_of g)
-
+module _ (z : ℤ) (f : SFits w64 z) where
   -- the bits of a number are 0 where it is 0
-  bits_none : eqb (of_z w64 z) 0 ≡ within (from_to 0 0) z
+  pub bits_none : eqb (of_z w64 z) 0 ≡ within (from_to 0 0) z
   bits_none =
       bool_ext (eqb (of_z w64 z) 0) (within (from_to 0 0) z)
-      (λ e. let h : z ≡ pos 0 = sym back ∙ ap (to_z w64) (eqb-true (of_z w64 z) 0 e) in rw h (within_pos (from_to 0 0) 0))
+      (λ e. let h : z ≡ pos 0 = sym (to_z-of_z w64 z f) ∙ ap (to_z w64) (eqb-true (of_z w64 z) 0 e) in rw h (within_zero 0))
       (λ e. rw (within_none z e))
 
   -- and bits that its own are joined to are 0 where they were 0 before, and it is 0
   pub joined_none : (a : ℕ) → eqb (bit_or a (of_z w64 z)) 0 ≡ eqb a 0 && within (from_to 0 0) z
   joined_none a = or_none a (of_z w64 z) ∙ ap (λ (t : Bool). eqb a 0 && t) bits_none
 
-  -- what is known to be natural is not below 0
-  pub not_below : z ≡ pos (nat z) → lt_z (to_z w64 (of_z w64 z)) (pos 0) ≡ false
-  not_below e = rw back (ap (λ (y : ℤ). lt_z y (pos 0)) e ∙ le-ltb (nat z) 0 (omega arith))
+-- ---- the bits of a run of places, joined
 
-  module _ (e : lt_z (to_z w64 (of_z w64 z)) (pos 0) ≡ true) where
-    pub negative_nat : nat z ≡ 0
-    negative_nat = negative z (rw back at e)
+module _ (b : List ℤ) (from n k a : ℕ) where
+  -- what the bits a say of the first k places
+  abbrev pub joined_run : Type 0
+  joined_run = eqb (of_z w64 (to_z w64 a)) 0 ≡ run_within b from k (from_to 0 0)
 
-    pub negative_not_open : is_open z ≡ false
-    negative_not_open = negative_closed z (rw back at e)
-
-    pub one-within : (l : Limits) → lt_z (to_z w64 (of_z w64 z)) (negsuc 0) ≡ false → within l z ≡ l.closable
-    one-within l f = minus_one l z (rw back at e) (rw back at f)
-
-  pub below-within : (l : Limits) → lt_z (to_z w64 (of_z w64 z)) (negsuc 0) ≡ true → within l z ≡ false
-  below-within l e = below_one l z (rw back at e)
-
-  module _ (e : lt_z (to_z w64 (of_z w64 z)) (pos 0) ≡ false) where
-    read : (to_z w64 (of_z w64 z) ≡ pos (nat z)) × (nat z < 2 ^ 63)
-    read = (back ∙ (natural z g (rw back at e)).0, (natural z g (rw back at e)).1)
-
-    pub natural_is_open : is_open z ≡ true
-    natural_is_open = natural_open z (rw back at e)
-
-    -- the cast to an unsigned number is defined, and gives the natural number
-    pub cast_fits : T (non_neg (to_z w64 (of_z w64 z))) × Fits w64 (nat_abs (to_z w64 (of_z w64 z)))
-    cast_fits = rw read.0 (tt, record { fits = omega (arith, read.1) })
-
-    pub cast_nat : nat_abs (to_z w64 (of_z w64 z)) ≡ nat z
-    cast_nat = rw read.0
-
-    pub within-nat : (l : Limits) → within l z ≡ leb l.low (nat_abs (to_z w64 (of_z w64 z))) && leb (nat_abs (to_z w64 (of_z w64 z))) l.high
-    within-nat l = rw read.0 (ap (within l) (sym back ∙ read.0) ∙ within_pos l (nat z))
+  pub joined_next : SFits w64 (get_or (take (from + n - from) (drop from b)) k (pos 0)) → Fits w64 a → k < n → joined_run
+      → eqb (of_z w64 (to_z w64 (bit_or a (of_z w64 (get_or (take (from + n - from) (drop from b)) k (pos 0)))))) 0 ≡ run_within b from (k + 1) (from_to 0 0)
+  joined_next f g h e =
+      let z = get_or (take (from + n - from) (drop from b)) k (pos 0) in
+      ap (λ (i : ℕ). eqb i 0) (of_z-to_z (Fits-or g (of_z_fits w64 z f))) ∙ joined_none z f a
+      ∙ ap₂ ◌&&◌ (ap (λ (i : ℕ). eqb i 0) (sym (of_z-to_z g)) ∙ e) (ap (within (from_to 0 0)) (part_at b from n k (pos 0) h))
+      ∙ sym (all_next _ k)

@@ -1,6 +1,6 @@
 -- What the operations may use of a block that holds a study, and when a changed block still holds one. For every size.
-use mathlib.Core.Path.{◌≡◌, refl, sym, ap, ◌∙◌}
-use mathlib.Core.Bool.{Bool, true, false, cond, ◌&&◌, ◌||◌}
+use mathlib.Core.Path.{◌≡◌, refl, sym, ap, subst, ◌∙◌}
+use mathlib.Core.Bool.{Bool, true, false, ◌&&◌, ◌||◌}
 use mathlib.Core.List.{List}
 use mathlib.Core.Logic.{◌⊎◌, inl, inr, ⊎_elim, dite, ◌≢◌}
 use Prim.Native.Nat.{ℕ, zero, suc, ◌+◌, ◌*◌, ◌-◌, ◌/◌, ◌<◌, ◌≤◌}
@@ -8,15 +8,20 @@ use native.Mathlib.Decide.{ℕ_discrete, dec_lt}
 use native.Mathlib.Omega.{arith}
 use lib.Dec.{ltb, eqb}
 use lib.IntN.{ℤ, pos, negsuc}
-use lib.ListN.{length, set, length-set}
-use lib.Seq.{get_or-set_same, get_or-set_other}
+use lib.ListN.{length, set, replicate, length-set, length-replicate}
+use lib.Seq.{ext_get_or, get_or-set_same, get_or-set_other}
 use borrow.Author.Tests.{lt-ltb, ltb-true, eq-eqb, ne_eqb, eqb-true}
+use Rattle.std.specs.Prelude.{◌↔◌, Option, None, IsSome}
+use Rattle.std.proofs.lemmas.List.{get_or-replicate}
 use Rattle.theory.proofs.Range.{both_true, all_true, all_intro, pass_all}
 use Rattle.units.specs.Units.{scale_min, scale_max}
 use Rattle.tables.specs.declared.block.Block.{Block}
-use Rattle.tables.specs.declared.well_formed.NewBlock.TheVariants.{Within as within_block, Outside as outside-block}
+use Rattle.tables.specs.declared.block.Block.TheVariants.{Fresh, Held}
+use Rattle.tables.specs.declared.held_study.HeldStudy.{HeldStudy}
+use Rattle.tables.specs.declared.place_limits.Limits.{Limits}
+use Rattle.tables.specs.Known.{numbers_of, fresh_of}
 use Rattle.tables.specs.Block.{block_length, max_trains, max_choices, max_pairs, max_cost, max_parts, trains_place, constant_place, size_place, first_place, second_place, entries_of_pair, loaded_choices_from, held_choices_from, loaded_entries_from, held_entries_from, loaded_choice_place, held_choice_place, loaded_entry_place, held_entry_place, at, nat, figure, trains, scale, pairs, constant, size, first, second, held_choice, held_entry}
-use Rattle.tables.specs.WellFormed.{Limits, from_to, cost_to, within, is_open, mated, used_if, choice_used, entry_used, head_limits, limits_at, places_right, before, follows, pair_right, pairs_right, is_zero, is_fresh, holds_study, well_formed, new_block, Study}
+use Rattle.tables.specs.WellFormed.{from_to, cost_to, within, is_open, mated, used_if, choice_used, entry_used, head_limits, limits_at, places_right, before, follows, pair_right, pairs_right, fresh_block, is_zero, is_fresh, holds_study, well_formed, Study}
 use Rattle.tables.proofs.Mates.{mated-mates, mates-mated, mate_open, mate_same}
 use Rattle.tables.proofs.Limits.{Within, within-figure, within_pos, within-closed, choice_used_lem, entry_used_lem, limits_head, limits-size, limits-first, limits-second, limits_loaded_choices, limits-held_choices, limits_loaded_entries, limits-held_entries, shape_limits_lem, shape_closable}
 
@@ -43,21 +48,6 @@ study_of_lem b e f =
     let g = both_true (eqb (length b) block_length) (is_fresh b || holds_study b) e in
     holds_study_lem b (eqb-true (length b) block_length g.0) (rw f at g.1)
 
--- what the constructor of a block says: the numbers are well formed, and the block keeps whether they are fresh; or they are not
-pub new_block_within : (b : List ℤ) (k : Block) → new_block b ≡ within_block k → (well_formed b ≡ true) × (k.fresh ≡ is_fresh b)
-new_block_within b k e = go (well_formed b) refl e
-  where
-    go : (t : Bool) → well_formed b ≡ t → cond t (within_block (record { fresh = is_fresh b })) outside-block ≡ within_block k → (well_formed b ≡ true) × (k.fresh ≡ is_fresh b)
-    go true p e = let h : record { fresh = is_fresh b } ≡ k = cc in (p, ap (λ (x : Block). x.fresh) (sym h))
-    go false p e = let z : ◌≡◌ {A = ℕ} 0 1 = cc in absurd (omega arith)
-
-pub new_block_outside : (b : List ℤ) → new_block b ≡ outside-block → well_formed b ≡ false
-new_block_outside b e = go (well_formed b) refl e
-  where
-    go : (t : Bool) → well_formed b ≡ t → cond t (within_block (record { fresh = is_fresh b })) outside-block ≡ outside-block → well_formed b ≡ false
-    go true p e = let z : ◌≡◌ {A = ℕ} 0 1 = cc in absurd (omega arith)
-    go false p e = p
-
 -- and a block that holds a study is well formed
 pub study_holds : {b : List ℤ} → Study b → holds_study b ≡ true
 unfolding holds_study places_right pairs_right
@@ -76,6 +66,44 @@ or_true false = refl
 pub study_well_formed : {b : List ℤ} → Study b → well_formed b ≡ true
 unfolding well_formed
 study_well_formed {b} s = rw (eq-eqb (length b) block_length s.whole, study_holds s) (or_true (is_fresh b))
+
+-- ---- the test of a block, as its constructor goes through it
+
+pub other_length : (b : List ℤ) → (length b ≡ block_length → ⊥) → well_formed b ≡ false
+unfolding well_formed
+other_length b n = rw (ne_eqb (length b) block_length n)
+
+pub fresh_or_study : (b : List ℤ) → length b ≡ block_length → well_formed b ≡ is_fresh b || holds_study b
+unfolding well_formed
+fresh_or_study b e = rw (eq-eqb (length b) block_length e)
+
+zeros_fresh : (n : ℕ) → is_fresh (replicate n (pos 0)) ≡ true
+unfolding is_fresh is_zero
+zeros_fresh n =
+    pass_all (λ p z. is_zero z) (pos 0) (replicate n (pos 0))
+    ∙ all_intro _ (length (replicate n (pos 0))) (λ k h. ap is_zero (get_or-replicate n k (pos 0) (pos 0) (omega (arith, length-replicate n (pos 0)))))
+
+-- 'Fresh is all zeros': so is the fresh block
+pub fresh_is_fresh : is_fresh fresh_block ≡ true
+fresh_is_fresh = zeros_fresh block_length
+
+pub fresh_well_formed : well_formed fresh_block ≡ true
+fresh_well_formed = fresh_or_study fresh_block (length-replicate block_length (pos 0)) ∙ rw fresh_is_fresh
+
+zero_is : (z : ℤ) → is_zero z ≡ true → z ≡ pos 0
+unfolding is_zero
+zero_is (pos n) e = ap pos (eqb-true n 0 e)
+zero_is (negsuc n) e = let h : ◌≡◌ {A = ℕ} 0 1 = cc in absurd (omega arith)
+
+-- and there is no other
+pub fresh_is : (b : List ℤ) → length b ≡ block_length → is_fresh b ≡ true → fresh_block ≡ b
+unfolding is_fresh
+fresh_is b w e =
+    ext_get_or (pos 0) fresh_block b (length-replicate block_length (pos 0) ∙ sym w)
+    (λ k h. get_or-replicate block_length k (pos 0) (pos 0) (omega (arith, length-replicate block_length (pos 0)))
+    ∙ sym (zero_is (at b k) (all_true (λ p. is_zero (at b p)) (length b) (sym (pass_all (λ p z. is_zero z) (pos 0) b) ∙ e) k (omega (arith, w, length-replicate block_length (pos 0))))))
+
+pub ruleset new_block = (other_length, fresh_or_study, fresh_is, holds_study_lem)
 
 zero_none : (z : ℤ) → is_zero z ≡ true → nat z ≡ 0
 unfolding is_zero
@@ -221,6 +249,9 @@ module _ {b : List ℤ} (s : Study b) where
       held_entry_range =
           used (entry_used b (entries_of_pair * k + (max_choices * a + c))) (cost_to max_parts) (held_entry_place k a c) (omega (arith, small))
           (limits-held_entries b (entries_of_pair * k + (max_choices * a + c))) entry_here
+
+-- the limits of n and m, of sizes and of the pairs' trains
+pub ruleset shape_ranges = (trains_range, pairs_range, size_range, first_high, second_high, first-below-trains, second-below-trains)
 
 -- the order of pairs
 pub record Before (i j k l : ℕ) : Type 0 where
@@ -400,3 +431,25 @@ put_study {b} s p v h w o low high =
     at_place : (q : ℕ) → q < block_length → Dec (q ≡ p) → within (limits_at b q) (at (set b p (pos v)) q) ≡ true
     at_place q l (yes e) = rw (e, get_or-set_same b p (pos v) (pos 0) (omega (arith, s.whole))) (within_pos (limits_at b p) v low high)
     at_place q l (no n) = rw (get_or-set_other b p q (pos v) (pos 0) n) (s.places q l)
+
+-- ---- the blocks that the constructor gives
+
+-- the numbers of a held study are not fresh, and those of every block are well formed
+pub held_not_fresh : (s : HeldStudy) → is_fresh s.numbers.now ≡ false
+held_not_fresh s = study_not_fresh s.held
+
+pub block_well_formed : (k : Block) → well_formed (numbers_of k) ≡ true
+block_well_formed Fresh = fresh_well_formed
+block_well_formed (Held s) = study_well_formed s.held
+
+-- what the constructor of a block says: the numbers are well formed, and the block keeps whether they are fresh; or they are not
+pub new_block_within : (b : List ℤ) (k : Block) → numbers_of k ≡ b → (well_formed b ≡ true) × (fresh_of k ≡ is_fresh b)
+new_block_within b Fresh e = rw (← e) (fresh_well_formed, sym fresh_is_fresh)
+new_block_within b (Held s) e = rw (← e) (study_well_formed s.held, sym (held_not_fresh s))
+
+pub new_block_outside : (b : List ℤ) (r : Option Block) → IsSome r ↔ (well_formed b ≡ true) → r ≡ None → well_formed b ≡ false
+new_block_outside b r h e = go (well_formed b) refl
+  where
+    go : (t : Bool) → well_formed b ≡ t → well_formed b ≡ false
+    go true p = let q : false ≡ true = subst IsSome e (h.1 p) in cc
+    go false p = p

@@ -2,6 +2,7 @@
 pub mod Block
 pub mod LineLimits
 pub mod WellFormed
+pub mod Known
 pub mod Plans
 pub mod Counts
 pub mod Numbers

@@ -1,8 +1,9 @@
 -- What `all_zero` of places.rt and the private functions of well_formed.rt answer, row by row. Nothing here is part of the rule: proofs/Rows.antt brings it to `well_formed`.
 use Rattle.std.specs.Prelude.{Bool, cond, List, ℕ, ◌+◌, ◌*◌, ltb, ℤ}
 use Rattle.theory.specs.Range.{all}
+use Rattle.tables.specs.declared.place_limits.Limits.{Limits}
 use Rattle.tables.specs.Block.{max_trains, max_choices, max_pairs, entries_of_pair, loaded_choices_from, at, trains, pairs, size, first, second}
-use Rattle.tables.specs.WellFormed.{Limits, within, mate, used_if, choice_used, entry_used, place_right}
+use Rattle.tables.specs.WellFormed.{within, mate, used_if, choice_used, entry_used, place_right}
 
 -- `count` places from `from` on are within the limits
 abbrev pub run_within : List ℤ → ℕ → ℕ → Limits → Bool

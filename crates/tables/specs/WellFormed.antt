@@ -2,16 +2,10 @@
 use Rattle.std.specs.Prelude.{◌≡◌, Bool, true, false, cond, not, ◌&&◌, ◌||◌, List, ℕ, zero, suc, ◌+◌, ◌*◌, ◌-◌, ◌/◌, ◌%◌, ◌<◌, leb, ltb, eqb, ℤ, pos, negsuc, length, replicate, drop}
 use Rattle.theory.specs.Range.{all, pass}
 use Rattle.units.specs.Units.{scale_min, scale_max}
-use Rattle.tables.specs.declared.well_formed.NewBlock.{NewBlock}
-use Rattle.tables.specs.declared.well_formed.NewBlock.TheVariants.{Within, Outside}
+use Rattle.tables.specs.declared.place_limits.Limits.{Limits}
 use Rattle.tables.specs.Block.{block_length, max_trains, max_choices, max_pairs, max_cost, max_parts, trains_place, scale_place, pairs_place, sizes_from, firsts_from, seconds_from, loaded_choices_from, held_choices_from, loaded_entries_from, held_entries_from, at, trains, pairs, size, first, second, entries_of_pair}
 
 -- the least and the greatest number that a place may hold, and whether it may hold −1: 'A choice or pair of choices can be forbidden'
-pub record Limits : Type 0 where
-  pub low : ℕ
-  pub high : ℕ
-  pub closable : Bool
-
 abbrev pub limits : ℕ → ℕ → Bool → Limits
 limits low high closable = record { low = low; high = high; closable = closable }
 
@@ -126,10 +120,6 @@ holds_study b = places_right b && pairs_right b && mated b
 -- 'A block is well formed if fresh, or ..'
 unfoldable pub well_formed : List ℤ → Bool
 well_formed b = eqb (length b) block_length && (is_fresh b || holds_study b)
-
--- the block of these numbers, where they are well formed
-abbrev pub new_block : List ℤ → NewBlock
-new_block b = cond (well_formed b) (Within (record { fresh = is_fresh b })) Outside
 
 -- a well-formed block that is not fresh, as facts: what the operations ask of their block
 pub record Study (b : List ℤ) : Type 0 where

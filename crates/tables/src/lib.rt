@@ -2,5 +2,7 @@
 #![tactic(auto)]
 
 pub mod block;
+pub mod held_study;
+pub mod place_limits;
 pub mod places;
 pub mod well_formed;

@@ -1,94 +1,72 @@
 // Document 01, 'State block': whether a lent block is well formed. The tables are gone through row by row.
-ghost use Rattle.std.specs.Prelude.{◌≡◌, true, ◌+◌, ◌*◌, ◌<◌, ◌≤◌, length};
+ghost use Rattle.std.specs.Prelude.{◌≡◌, ◌↔◌, true, ◌+◌, ◌*◌, ◌<◌, ◌≤◌, IsSome, IfSome, length};
 ghost use Rattle.tables.specs.Block.{block_length, max_trains, max_choices, max_pairs, entries_of_pair, pairs};
-ghost use Rattle.tables.specs.WellFormed.{limits, from_to, cost_to, places_right, mated, before, follows, pair_right, pairs_right, is_fresh, holds_study, new_block};
+ghost use Rattle.tables.specs.WellFormed.{cost_to, places_right, mated, follows, pair_right, pairs_right, is_fresh, holds_study, well_formed};
 ghost use Rattle.tables.specs.Rows.{run_within, row_within, head_right, shape_right, choices_used, choices_within, entries_used, pair_within, entries_within};
+ghost use Rattle.tables.specs.Known.{numbers_of};
 
-use crate::block::Block;
+use crate::block::{Block, Places};
+use crate::held_study::HeldStudy;
+use crate::place_limits::Limits;
 use crate::{block, places};
 use units::Scale;
 
-// What the constructor of a block answers.
-#[derive(Clone, Copy)]
-pub enum NewBlock {
-    Within(Block),
-    Outside,
-}
-
-impl Block {
+impl<'a> Block<'a> {
     // The block that these numbers are, where they are well formed.
-    pub fn new(numbers: &[i64]) -> NewBlock
-        ensures { result ≡ new_block numbers.now }
+    #[tactic(auto, using(crate::proofs::Study::new_block))]
+    pub fn new(numbers: &'a [i64]) -> Option<Block<'a>>
+        ensures variant { IsSome result ↔ (well_formed numbers.now ≡ true) }
+        ensures numbers { IfSome result (λ b. numbers_of b ≡ numbers.now) }
     {
-        if numbers.len() != Block::LENGTH {
-            return NewBlock::Outside;
-        }
+        let numbers = numbers.as_array()?;
         if is_fresh(numbers) {
-            return NewBlock::Within(Block::known(true));
+            return Some(Block::Fresh);
         }
         if holds_study(numbers) {
-            NewBlock::Within(Block::known(false))
-        } else {
-            NewBlock::Outside
+            return Some(Block::Held(HeldStudy { numbers }));
         }
+        None
     }
 }
 
 // Whether all numbers are 0. The first is looked at by itself: in a loaded study it is n, and the others need no look.
-fn is_fresh(block: &[i64]) -> bool
-    ensures { result ≡ is_fresh block.now }
+#[tactic(auto, using(crate::proofs::Rows::fresh))]
+fn is_fresh(b: &Places) -> bool
+    ensures { result ≡ is_fresh b.now }
 {
-    if block.len() == 0 {
-        return true;
-    }
-    if !places::is_within(block, 0, 0, 0, false) {
-        return false;
-    }
-    places::all_zero(block, 0, block.len())
+    b[0] == 0 && places::all_zero(b, 0, b.len())
 }
 
 // Whether the places and the pairs are those of a loaded study.
-pub fn holds_study(b: &[i64]) -> bool
-    requires { length b.now ≡ block_length }
+#[tactic(auto, using(crate::proofs::Rows::study), unfolding(crate::specs::WellFormed::holds_study))]
+pub fn holds_study(b: &Places) -> bool
     ensures { result ≡ holds_study b.now }
 {
-    if !shape_right(b) {
-        return false;
-    }
-    if !pairs_right(b) {
-        return false;
-    }
-    if !choices_within(b, Block::LOADED_CHOICES_FROM, Block::COST.number()) {
-        return false;
-    }
-    if !choices_within(b, Block::HELD_CHOICES_FROM, Block::PARTS.number()) {
-        return false;
-    }
-    if !entries_within(b, Block::LOADED_ENTRIES_FROM, Block::COST.number()) {
-        return false;
-    }
-    if !entries_within(b, Block::HELD_ENTRIES_FROM, Block::PARTS.number()) {
-        return false;
-    }
-    mated(b)
+    let costs = Limits::cost_to(Block::COST.into());
+    let parts = Limits::cost_to(Block::PARTS.into());
+    shape_right(b)
+        && pairs_right(b)
+        && choices_within(b, Block::LOADED_CHOICES_FROM, costs)
+        && choices_within(b, Block::HELD_CHOICES_FROM, parts)
+        && entries_within(b, Block::LOADED_ENTRIES_FROM, costs)
+        && entries_within(b, Block::HELD_ENTRIES_FROM, parts)
+        && mated(b)
 }
 
 // Whether H and T are below 0 at the same entries. Unused places are 0, so that only used trains and pairs are looked at.
-fn mated(b: &[i64]) -> bool
-    requires { (length b.now ≡ block_length) × (places_right b.now ≡ true) }
+#[tactic(auto, using(crate::proofs::Mates::head_counts, crate::proofs::Mates::mated_used))]
+fn mated(b: &Places) -> bool
+    requires { places_right b.now ≡ true }
     ensures { result ≡ mated b.now }
 {
     let choices = Block::CHOICES * block::trains(b);
-    if !places::run_mated(
+    let entries = Block::ENTRIES * block::pairs(b);
+    places::run_mated(
         b,
         Block::LOADED_CHOICES_FROM,
         Block::HELD_CHOICES_FROM,
         choices,
-    ) {
-        return false;
-    }
-    let entries = Block::ENTRIES * block::pairs(b);
-    places::run_mated(
+    ) && places::run_mated(
         b,
         Block::LOADED_ENTRIES_FROM,
         Block::HELD_ENTRIES_FROM,
@@ -96,163 +74,81 @@ fn mated(b: &[i64]) -> bool
     )
 }
 
-// Whether `count` places from `from` on are from low to high, or −1 where they may be.
-fn run_within(b: &[i64], from: usize, count: usize, low: u64, high: u64, closable: bool) -> bool
-    requires { from + count ≤ length b.now }
-    ensures { result ≡ run_within b.now from count (limits low high closable) }
+// Whether `count` places from `from` on are within the limits.
+fn run_within(b: &Places, from: usize, count: usize, limits: Limits) -> bool
+    requires { from + count ≤ block_length }
+    ensures { result ≡ run_within b.now from count limits }
 {
-    let mut k = 0;
-    while k < count {
-        if !places::is_within(b, from + k, low, high, closable) {
-            return false;
-        }
-        k += 1;
-    }
-    true
+    b[from..from + count].iter().all(|z| limits.allow(*z))
 }
 
-// Whether of `width` places from `from` on the first `used` are from low to high, or −1 where they may be, and the others 0.
-fn row_within(
-    b: &[i64],
-    from: usize,
-    width: usize,
-    used: usize,
-    low: u64,
-    high: u64,
-    closable: bool,
-) -> bool
-    requires { (from + width ≤ length b.now) × (used ≤ width) }
-    ensures { result ≡ row_within b.now from width used (limits low high closable) }
+// Whether of `width` places from `from` on the first `used` are within the limits, and the others 0.
+#[tactic(auto, using(crate::proofs::Rows::row_split))]
+fn row_within(b: &Places, from: usize, width: usize, used: usize, limits: Limits) -> bool
+    requires { (from + width ≤ block_length) × (used ≤ width) }
+    ensures { result ≡ row_within b.now from width used limits }
 {
-    if !run_within(b, from, used, low, high, closable) {
-        return false;
-    }
-    places::all_zero(b, from + used, width - used)
+    run_within(b, from, used, limits) && places::all_zero(b, from + used, width - used)
 }
 
 // Whether n, s, m and c0 are within their limits.
-fn head_right(b: &[i64]) -> bool
-    requires { length b.now ≡ block_length }
+#[tactic(auto, using(crate::proofs::Rows::head))]
+fn head_right(b: &Places) -> bool
     ensures { result ≡ head_right b.now }
 {
-    if !places::is_within(b, Block::TRAINS_PLACE, 1, Block::TRAINS as u64, false) {
-        return false;
-    }
-    if !places::is_within(b, Block::SCALE_PLACE, Scale::MIN, Scale::MAX, false) {
-        return false;
-    }
-    if !places::is_within(b, Block::PAIRS_PLACE, 0, Block::PAIRS as u64, false) {
-        return false;
-    }
-    places::is_within(b, Block::CONSTANT_PLACE, 0, Block::PARTS.number(), false)
+    Limits::from_to(1, Block::TRAINS as u64).allow(b[Block::TRAINS_PLACE])
+        && Limits::from_to(Scale::MIN, Scale::MAX).allow(b[Block::SCALE_PLACE])
+        && Limits::from_to(0, Block::PAIRS as u64).allow(b[Block::PAIRS_PLACE])
+        && Limits::from_to(0, Block::PARTS.into()).allow(b[Block::CONSTANT_PLACE])
 }
 
 // Whether the head, the sizes and the pairs' trains are within their limits.
-fn shape_right(b: &[i64]) -> bool
-    requires { length b.now ≡ block_length }
+#[tactic(auto, using(crate::proofs::Rows::shape_rows, crate::proofs::Rows::head_most))]
+fn shape_right(b: &Places) -> bool
     ensures { result ≡ shape_right b.now }
 {
     if !head_right(b) {
         return false;
     }
     let n = block::trains(b);
-    if !row_within(
-        b,
-        Block::SIZES_FROM,
-        Block::TRAINS,
-        n,
-        1,
-        Block::CHOICES as u64,
-        false,
-    ) {
-        return false;
-    }
     let m = block::pairs(b);
-    if !row_within(
-        b,
-        Block::FIRSTS_FROM,
-        Block::PAIRS,
-        m,
-        0,
-        Block::TRAINS as u64 - 1,
-        false,
-    ) {
-        return false;
-    }
-    row_within(
-        b,
-        Block::SECONDS_FROM,
-        Block::PAIRS,
-        m,
-        0,
-        Block::TRAINS as u64 - 1,
-        false,
-    )
-}
-
-// Whether the pair (i, j) comes before the pair (k, l).
-pub fn before(i: usize, j: usize, k: usize, l: usize) -> bool
-    ensures { result ≡ before i j k l }
-{
-    if i < k {
-        return true;
-    }
-    if i != k {
-        return false;
-    }
-    j < l
+    let sizes = Limits::from_to(1, Block::CHOICES as u64);
+    let trains = Limits::from_to(0, Block::TRAINS as u64 - 1);
+    row_within(b, Block::SIZES_FROM, Block::TRAINS, n, sizes)
+        && row_within(b, Block::FIRSTS_FROM, Block::PAIRS, m, trains)
+        && row_within(b, Block::SECONDS_FROM, Block::PAIRS, m, trains)
 }
 
 // Whether pair k comes after the one before it, where there is one.
-fn follows(b: &[i64], k: usize) -> bool
-    requires { (length b.now ≡ block_length) × (k < max_pairs) }
+#[tactic(auto, using(std::proofs::lemmas::Bool::Decides::nat_tests), unfolding(crate::specs::WellFormed::before, crate::specs::WellFormed::follows))]
+fn follows(b: &Places, k: usize) -> bool
+    requires { k < max_pairs }
     ensures { result ≡ follows b.now k }
 {
-    if k == 0 {
-        return true;
-    }
-    before(
-        block::first(b, k - 1),
-        block::second(b, k - 1),
-        block::first(b, k),
-        block::second(b, k),
-    )
+    k == 0 || block::trains_of(b, k - 1) < block::trains_of(b, k)
 }
 
 // Whether pair k has i below j, j below n, and comes after the pair before it.
-fn pair_right(b: &[i64], k: usize) -> bool
-    requires { (length b.now ≡ block_length) × (k < max_pairs) }
+#[tactic(auto, using(std::proofs::lemmas::Bool::Decides::nat_tests), unfolding(crate::specs::WellFormed::pair_right))]
+fn pair_right(b: &Places, k: usize) -> bool
+    requires { k < max_pairs }
     ensures { result ≡ pair_right b.now k }
 {
-    let j = block::second(b, k);
-    if block::first(b, k) >= j {
-        return false;
-    }
-    if j >= block::trains(b) {
-        return false;
-    }
-    follows(b, k)
+    let pair = block::trains_of(b, k);
+    pair.first < pair.second && pair.second < block::trains(b) && follows(b, k)
 }
 
 // Whether the pairs ascend.
-fn pairs_right(b: &[i64]) -> bool
-    requires { (length b.now ≡ block_length) × (pairs b.now ≤ max_pairs) }
+fn pairs_right(b: &Places) -> bool
+    requires { pairs b.now ≤ max_pairs }
     ensures { result ≡ pairs_right b.now }
 {
-    let m = block::pairs(b);
-    let mut k = 0;
-    while k < m {
-        if !pair_right(b, k) {
-            return false;
-        }
-        k += 1;
-    }
-    true
+    (0..block::pairs(b)).all(|k| pair_right(b, k))
 }
 
 // How many choices of train i are used: none where there is no such train.
-fn choices_used(b: &[i64], i: usize) -> usize
-    requires { (length b.now ≡ block_length) × (i < max_trains) }
+fn choices_used(b: &Places, i: usize) -> usize
+    requires { i < max_trains }
     ensures { result ≡ choices_used b.now i }
 {
     if i < block::trains(b) {
@@ -262,80 +158,54 @@ fn choices_used(b: &[i64], i: usize) -> usize
     }
 }
 
-// Whether the table of choices that begins at `from` is from 0 to high, and 0 where it is unused.
-fn choices_within(b: &[i64], from: usize, high: u64) -> bool
-    requires { (length b.now ≡ block_length) × (from + max_trains * max_choices ≤ block_length) × (shape_right b.now ≡ true) }
-    ensures { result ≡ choices_within b.now from (cost_to high) }
+// Whether the table of choices that begins at `from` is within the limits, and 0 where it is unused.
+#[tactic(auto, using(crate::proofs::Rows::row_calls))]
+fn choices_within(b: &Places, from: usize, limits: Limits) -> bool
+    requires { (from + max_trains * max_choices ≤ block_length) × (shape_right b.now ≡ true) }
+    ensures { result ≡ choices_within b.now from limits }
 {
-    let mut i = 0;
-    while i < Block::TRAINS {
-        if !row_within(
-            b,
-            from + Block::CHOICES * i,
-            Block::CHOICES,
-            choices_used(b, i),
-            0,
-            high,
-            true,
-        ) {
-            return false;
-        }
-        i += 1;
-    }
-    true
+    (0..Block::TRAINS).all(|i| {
+        let row = from + Block::CHOICES * i;
+        row_within(b, row, Block::CHOICES, choices_used(b, i), limits)
+    })
 }
 
 // How many entries of row a of pair k are used: none where there is no such row or pair.
-fn entries_used(b: &[i64], k: usize, a: usize) -> usize
-    requires { (length b.now ≡ block_length) × (k < max_pairs) × (shape_right b.now ≡ true) }
+#[tactic(auto, using(crate::proofs::Rows::pair_trains))]
+fn entries_used(b: &Places, k: usize, a: usize) -> usize
+    requires { (k < max_pairs) × (shape_right b.now ≡ true) }
     ensures { result ≡ entries_used b.now k a }
 {
     if k >= block::pairs(b) {
         return 0;
     }
-    if a >= block::size(b, block::first(b, k)) {
-        return 0;
+    let pair = block::trains_of(b, k);
+    if a < block::size(b, pair.first) {
+        block::size(b, pair.second)
+    } else {
+        0
     }
-    block::size(b, block::second(b, k))
 }
 
-// Whether the places of pair k in the table that begins at `from` are from 0 to high, and 0 where they are unused.
-fn pair_within(b: &[i64], from: usize, k: usize, high: u64) -> bool
-    requires { (length b.now ≡ block_length) × (from + max_pairs * entries_of_pair ≤ block_length) × (k < max_pairs) × (shape_right b.now ≡ true) }
-    ensures { result ≡ pair_within b.now from k (cost_to high) }
+// Whether the places of pair k in the table that begins at `from` are within the limits, and 0 where they are unused.
+#[tactic(auto, using(crate::proofs::Rows::pair_absent, crate::proofs::Rows::row_calls))]
+fn pair_within(b: &Places, from: usize, k: usize, limits: Limits) -> bool
+    requires { (from + max_pairs * entries_of_pair ≤ block_length) × (k < max_pairs) × (shape_right b.now ≡ true) }
+    ensures { result ≡ pair_within b.now from k limits }
 {
     if k >= block::pairs(b) {
         return places::all_zero(b, from + Block::ENTRIES * k, Block::ENTRIES);
     }
-    let mut a = 0;
-    while a < Block::CHOICES {
-        if !row_within(
-            b,
-            from + (Block::ENTRIES * k + Block::CHOICES * a),
-            Block::CHOICES,
-            entries_used(b, k, a),
-            0,
-            high,
-            true,
-        ) {
-            return false;
-        }
-        a += 1;
-    }
-    true
+    (0..Block::CHOICES).all(|a| {
+        let row = from + (Block::ENTRIES * k + Block::CHOICES * a);
+        row_within(b, row, Block::CHOICES, entries_used(b, k, a), limits)
+    })
 }
 
-// Whether the table of pairs that begins at `from` is from 0 to high, and 0 where it is unused.
-fn entries_within(b: &[i64], from: usize, high: u64) -> bool
-    requires { (length b.now ≡ block_length) × (from + max_pairs * entries_of_pair ≤ block_length) × (shape_right b.now ≡ true) }
-    ensures { result ≡ entries_within b.now from (cost_to high) }
+// Whether the table of pairs that begins at `from` is within the limits, and 0 where it is unused.
+fn entries_within(b: &Places, from: usize, limits: Limits) -> bool
+    requires { (from + max_pairs * entries_of_pair ≤ block_length) × (shape_right b.now ≡ true) }
+    ensures { result ≡ entries_within b.now from limits }
 {
-    let mut k = 0;
-    while k < Block::PAIRS {
-        if !pair_within(b, from, k, high) {
-            return false;
-        }
-        k += 1;
-    }
-    true
+    (0..Block::PAIRS).all(|k| pair_within(b, from, k, limits))
 }

@@ -6,3 +6,4 @@ pub mod Fold
 pub mod Turns
 pub mod Lists
 pub mod Joined
+pub mod Chains

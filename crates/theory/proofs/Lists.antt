@@ -1,8 +1,8 @@
 -- Laws of lists given by their entries, and of loops that write them.
 use mathlib.Core.Path.{◌≡◌, refl, sym, ap, subst, ◌∙◌}
-use mathlib.Core.List.{List, ◌++◌, append-nil, append_assoc}
+use mathlib.Core.List.{List, [], ◌∷◌, ◌++◌, append-nil, append_assoc}
 use mathlib.Core.Logic.{dite}
-use Prim.Native.Nat.{ℕ, zero, suc, ◌+◌, ◌<◌, ◌≤◌}
+use Prim.Native.Nat.{ℕ, zero, suc, ◌+◌, ◌-◌, ◌<◌, ◌≤◌}
 use native.Mathlib.Decide.{dec_lt}
 use native.Mathlib.Nat.{add-zero, zero-add, add_assoc}
 use native.Mathlib.Numerals.{add-one}
@@ -34,6 +34,16 @@ module _ {A : Type 0} (f : ℕ → A) where
   pub list_past : (d : A) (n k : ℕ) → n ≤ k → get_or (list_of n f) k d ≡ d
   list_past d n k h = get_or-eq_default (list_of n f) d (omega (arith, list_length n))
 
+  list_from_next : (i n : ℕ) → list_from i (suc n) f ≡ list_from i n f ++ f (i + n) ∷ []
+  unfolding list_from
+  list_from_next i zero = ap (λ (k : ℕ). f k ∷ []) (sym (add-zero i))
+  list_from_next i (suc n) = let e : i + 1 + n ≡ i + suc n = omega arith in ap (λ (l : List A). f i ∷ l) (rw e at (list_from_next (i + 1) n))
+
+  -- a loop that puts one entry behind the other
+  pub list_next : (out : List A) (n : ℕ) → (out ++ list_of n f) ++ f n ∷ [] ≡ out ++ list_of (n + 1) f
+  list_next out n =
+      rw (append_assoc, add-one, list_from_next 0 n, zero-add n)
+
 -- a list is the list of its entries
 pub list_is : (n : ℕ) (f : ℕ → ℕ) (s : List ℕ) → length s ≡ n → ((k : ℕ) → k < n → f k ≡ nth s k) → list_of n f ≡ s
 list_is n f s e h =
@@ -48,6 +58,18 @@ pub list_part : (n : ℕ) (f : ℕ → ℕ) (s : List ℕ) (start : ℕ) → sta
 list_part n f s start h e =
     list_is n f (take n (drop start s)) (length-take-le n (drop start s) (omega (arith, length-drop start s)))
     (λ k q. e k q ∙ sym (get_or-drop start s k 0) ∙ sym (get_or-take n (drop start s) k 0 q))
+
+-- a part of n entries of a list, as a slice has it
+module _ {A : Type 0} (s : List A) (start n : ℕ) where
+  pub part_length : start + n ≤ length s → length (take (start + n - start) (drop start s)) ≡ n
+  part_length h =
+      let e : start + n - start ≡ n = omega arith in
+      rw e (length-take-le n (drop start s) (omega (arith, length-drop start s)))
+
+  pub part_at : (k : ℕ) (d : A) → k < n → get_or (take (start + n - start) (drop start s)) k d ≡ get_or s (start + k) d
+  part_at k d h =
+      let e : start + n - start ≡ n = omega arith in
+      rw e (get_or-take n (drop start s) k d h ∙ get_or-drop start s k d)
 
 -- what holds of every entry, and of 0
 pub list_all : (P : ℕ → Type 0) → P 0 → (n : ℕ) (f : ℕ → ℕ) → ((k : ℕ) → k < n → P (f k)) → (o : ℕ) → P (nth (list_of n f) o)

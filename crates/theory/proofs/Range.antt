@@ -9,6 +9,7 @@ use native.Mathlib.Numerals.{add-one}
 use native.Mathlib.Omega.{arith}
 use borrow.Author.Tests.{not-true, not-false}
 use lib.ListN.{length, get_or}
+use Rattle.std.specs.List.{list_all}
 use Rattle.theory.specs.Range.{all, pass}
 
 pub both_true : (a b : Bool) → a && b ≡ true → (a ≡ true) × (b ≡ true)
@@ -103,3 +104,11 @@ pass_from f d i (x ∷ l) =
 -- one pass over a list is a test at each of its places
 pub pass_all : {A : Type 0} (f : ℕ → A → Bool) (d : A) (l : List A) → pass f 0 l ≡ all (length l) (λ k. f k (get_or l k d))
 pass_all f d l = pass_from f d 0 l ∙ all_cong (length l) _ _ (λ k h. ap (λ (j : ℕ). f j (get_or l k d)) (zero-add k))
+
+-- so is a test of each entry of a list
+pub list_all-all : {A : Type 0} (p : A → Bool) (d : A) (l : List A) → list_all p l ≡ all (length l) (λ k. p (get_or l k d))
+unfolding all
+list_all-all p d [] = refl
+list_all-all p d (x ∷ l) =
+    ap (λ (t : Bool). p x && t) (list_all-all p d l ∙ all_cong (length l) _ _ (λ k h. ap (λ (j : ℕ). p (get_or (x ∷ l) j d)) (sym (add-one k))))
+    ∙ sym (all_head (λ k. p (get_or (x ∷ l) k d)) (length l))

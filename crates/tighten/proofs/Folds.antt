@@ -3,22 +3,23 @@ use mathlib.Core.Path.{◌≡◌, sym, ◌∙◌}
 use mathlib.Core.List.{List}
 use mathlib.Core.Bool.{true}
 use mathlib.Core.Logic.{◌≢◌}
-use Prim.Native.Nat.{ℕ, ◌+◌, ◌*◌, ◌<◌, ◌≤◌}
+use Prim.Native.Nat.{ℕ, ◌+◌, ◌*◌, ◌<◌, ◌≤◌, ◌^◌}
 use native.Mathlib.Decide.{ℕ_discrete}
 use native.Mathlib.Omega.{arith}
 use lib.IntN.{ℤ, pos}
 use Rattle.theory.specs.Fold.{iter}
 use Rattle.theory.proofs.Fold.{iter-ind}
-use Rattle.tables.specs.Block.{max_trains, max_pairs, held_choices_from, held_entries_from, trains, pairs, size, first}
+use Rattle.tables.specs.Block.{max_trains, max_pairs, max_parts, held_choices_from, held_entries_from, trains, pairs, size, first}
 use Rattle.tables.specs.Plans.{shape_of}
-use Rattle.tables.proofs.Study.{same_trains, same_size}
+use Rattle.tables.proofs.Study.{same_trains, same_pairs, same_size}
 use Rattle.rewriting.specs.declared.sides.Side.TheVariants.{Rows, Columns}
-use Rattle.rewriting.specs.Moves.{ShapeInRange, choices_run}
-use Rattle.rewriting.specs.Leasts.{run_least, lanes_tightened, train_tightened}
+use Rattle.rewriting.specs.Moves.{Room, ShapeInRange, choices_run}
+use Rattle.rewriting.specs.Leasts.{NonNegative, run_least, lanes_tightened, train_tightened}
+use Rattle.rewriting.proofs.Runs.{room_more}
 use Rattle.rewriting.proofs.Shape.{SameLoaded, shape_in_range_kept, same_lanes, lanes_most, Moved, none, moved_as, moved_loaded, moved_shape, moved_more, moved_unary, pairs_moved}
-use Rattle.rewriting.proofs.Falls.{Falling, Tight, tight_is, moved_falling, lanes_tightened_lem, Zero, train_zero}
+use Rattle.rewriting.proofs.Falls.{Falling, falling_start, Tight, tight_is, moved_falling, lanes_tightened_lem, trains-tightened, Zero, train_zero}
 use Rattle.rewriting.proofs.Rewritten.{loaded_alike}
-use Rattle.tighten.specs.Tighten.{pair_tightened, pairs_tightened, trains_tightened, tightened}
+use Rattle.tighten.specs.Tighten.{pair_tightened, pairs_tightened}
 
 -- ---- the fold over pairs
 
@@ -36,6 +37,41 @@ module _ {b : List ℤ} (s : ShapeInRange b) where
   pub pairs-tightened : (m n : ℕ) (c : List ℤ) → m ≤ pairs b → Moved (Tight held_entries_from) b n c
       → Moved (Tight held_entries_from) b (n + 16 * m) (iter m pair_tightened c)
   pairs-tightened m n c l w = pairs_moved s pair_tightened pair_tightened_lem m n c l w
+
+  -- ---- what the calls ask of the block on the way
+
+  -- the columns of pair k, after its rows
+  pub columns_asked : (k : ℕ) → NonNegative b → Room b (2 ^ 47) → k < pairs b
+      → let c = lanes_tightened Rows k b in ShapeInRange c × NonNegative c × Room c (2 ^ 52) × (k < pairs c)
+  columns_asked k o r h =
+      let w = lanes_tightened_lem s Rows k (size b (first b k)) 0 b h (omega arith) none in
+      let e = moved_shape s w in
+      let f = moved_falling s (falling_start o r) w in
+      (shape_in_range_kept e s, f.whole, room_more (2 ^ 52) f.most (omega (arith, lanes_most s Rows k h)), omega (arith, same_pairs e))
+
+  -- pair k, after the pairs before it
+  pub pair_asked : (k : ℕ) → NonNegative b → Room b max_parts → k < pairs b
+      → let c = iter k pair_tightened b in ShapeInRange c × NonNegative c × Room c (2 ^ 47) × (k < pairs c)
+  pair_asked k o r h =
+      let w = pairs-tightened k 0 b (omega arith) none in
+      let e = moved_shape s w in
+      let f = moved_falling s (falling_start o r) w in
+      (shape_in_range_kept e s, f.whole, room_more (2 ^ 47) f.most (omega (arith, s.pairs)), omega (arith, same_pairs e))
+
+  -- the trains, after all pairs
+  pub trains_asked : NonNegative b → Room b max_parts → let c = pairs_tightened b in ShapeInRange c × NonNegative c × Room c (2 ^ 50)
+  trains_asked o r =
+      let w = pairs-tightened (pairs b) 0 b (omega arith) none in
+      let f = moved_falling s (falling_start o r) w in
+      (shape_in_range_kept (moved_shape s w) s, f.whole, room_more (2 ^ 50) f.most (omega (arith, s.pairs)))
+
+  -- train i, after the trains before it
+  pub train_asked : (i : ℕ) → NonNegative b → Room b (2 ^ 50) → i < trains b
+      → let c = iter i train_tightened b in ShapeInRange c × Room c (2 ^ 57) × (i < trains c)
+  train_asked i o r h =
+      let w = trains-tightened s i 0 b (omega arith) none in
+      let e = moved_shape s w in
+      (shape_in_range_kept e s, room_more (2 ^ 57) (moved_falling s (falling_start o r) w).most (omega (arith, s.trains)), omega (arith, same_trains e))
 
 -- ---- what the trains are left with
 
@@ -82,12 +118,3 @@ trains-zero {b} s f m h = (iter-ind So m train_tightened b (none, λ i l. absurd
                 let y : a < size x n = omega (arith, u.sizes_same n (omega arith)) in
                 rw r (zero_back s e n (omega arith) (t.0 a y (sym (u.choices_open_same n a (omega arith) d) ∙ (rw r at o))))
             by (no r) = zero_back s e i k (t.1 i (omega (arith, same_trains e.shape)) r (zero_on s e i k (z i (omega arith) a g o)))
-
--- a pair, and the whole, by their calls
-pub pair_tight_by : (k : ℕ) (b : List ℤ) {c d : List ℤ} → c ≡ lanes_tightened Rows k b → d ≡ lanes_tightened Columns k c → d ≡ pair_tightened k b
-unfolding pair_tightened
-pair_tight_by k b p q = q ∙ rw p
-
-pub tightened_by : (b : List ℤ) {t p d : List ℤ} → t ≡ b → p ≡ pairs_tightened t → d ≡ trains_tightened p → d ≡ tightened b
-unfolding tightened
-tightened_by b e f g = g ∙ rw (f, e)

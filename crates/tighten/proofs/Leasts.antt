@@ -15,7 +15,7 @@ use Rattle.theory.specs.Sum.{sum}
 use Rattle.theory.specs.Fold.{iter}
 use Rattle.theory.proofs.Whole.{sumℤ_pos}
 use Rattle.refusals.specs.declared.Refusal.TheVariants.{PartsOutside}
-use Rattle.refusals.specs.declared.Verdict.TheVariants.{Fine, Declined}
+use Rattle.refusals.specs.Verdicts.{Fine, Declined}
 use Rattle.tables.specs.Block.{max_pairs, constant_place, held_choice_place, held_entry_place, at, nat, figure, trains, pairs, size, first, second, constant, held_choice, held_entry}
 use Rattle.tables.specs.Plans.{shape_of, held_costs}
 use Rattle.tables.specs.WellFormed.{Study}

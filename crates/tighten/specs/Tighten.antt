@@ -1,7 +1,7 @@
 -- Document 01, '04 tighten'. The leasts are over permitted entries, and what goes to a forbidden choice is lost: that is put back at the end.
 use Rattle.std.specs.Prelude.{List, ℕ, ℤ}
 use Rattle.theory.specs.Fold.{iter}
-use Rattle.refusals.specs.declared.Verdict.{Verdict}
+use Rattle.refusals.specs.Verdicts.{Verdict}
 use Rattle.tables.specs.Block.{trains, pairs}
 use Rattle.rewriting.specs.declared.sides.Side.TheVariants.{Rows, Columns}
 use Rattle.rewriting.specs.Judged.{judged, judged_block}

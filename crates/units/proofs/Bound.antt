@@ -1,28 +1,27 @@
 -- What the published bound is: the least number of points that covers the parts.
 use mathlib.Core.Path.{◌≡◌, refl, sym}
 use mathlib.Core.Bool.{Bool, true, false, cond}
+use Rattle.std.specs.Prelude.{Some, None}
 use Prim.Native.Nat.{ℕ, suc, ◌+◌, ◌-◌, ◌*◌, ◌/◌, ◌<◌, ◌≤◌}
 use native.Mathlib.Nat.{mul_comm, suc-mul, div-lt_iff_lt-mul, lt-div-mul-add, le_antisymm, le_of_mul-le-mul_left, le-mul_of_pos_right}
 use native.Mathlib.Omega.{arith}
 use lib.Dec.{ltb}
 use borrow.Author.Tests.{le-ltb, ltb-false}
-use Rattle.units.specs.declared.Scale.{Scale}
-use Rattle.units.specs.declared.NewScale.TheVariants.{Within, Outside}
-use Rattle.units.specs.Units.{Sound, new_scale, the_scale, scale_min, scale_max, rounded_up}
+use Rattle.units.specs.Units.{Sound, new_scale, scale_min, scale_max, rounded_up}
 
 -- the constructor gives sound scales, of the number that it was given
-pub new_scale_sound : (n : ℕ) (s : Scale) → new_scale n ≡ Within s → (s ≡ the_scale n) × Sound s
+pub new_scale_sound : (n s : ℕ) → new_scale n ≡ Some s → (s ≡ n) × Sound s
 new_scale_sound n s e = go (ltb n scale_min) (ltb scale_max n) refl refl e
   where
-    go : (t u : Bool) → ltb n scale_min ≡ t → ltb scale_max n ≡ u → cond t Outside (cond u Outside (Within (the_scale n))) ≡ Within s → (s ≡ the_scale n) × Sound s
-    go true u p q e = let z : ◌≡◌ {A = ℕ} 0 1 = cc in absurd (omega arith)
-    go false true p q e = let z : ◌≡◌ {A = ℕ} 0 1 = cc in absurd (omega arith)
+    go : (t u : Bool) → ltb n scale_min ≡ t → ltb scale_max n ≡ u → cond t None (cond u None (Some n)) ≡ Some s → (s ≡ n) × Sound s
+    go true u p q e = cc
+    go false true p q e = cc
     go false false p q e =
-        let h : the_scale n ≡ s = cc in
+        let h : n ≡ s = cc in
         (sym h, rw (← h) (record { low = ltb-false n scale_min p; high = ltb-false scale_max n q }))
 
 -- and of every number within the limits
-pub new_scale-within : (n : ℕ) → scale_min ≤ n → n ≤ scale_max → new_scale n ≡ Within (the_scale n)
+pub new_scale-within : (n : ℕ) → scale_min ≤ n → n ≤ scale_max → new_scale n ≡ Some n
 new_scale-within n p q = rw (le-ltb n scale_min p, le-ltb scale_max n q)
 
 module _ (s : ℕ) (h : 0 < s) where

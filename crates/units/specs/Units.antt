@@ -1,19 +1,13 @@
 -- Document 01, 'Problem and units': points, parts, and the scale that converts them.
-use Rattle.std.specs.Prelude.{cond, ℕ, ◌+◌, ◌-◌, ◌*◌, ◌/◌, ◌≤◌, ltb}
+use Rattle.std.specs.Prelude.{cond, ℕ, ◌+◌, ◌-◌, ◌*◌, ◌/◌, ◌≤◌, ltb, Option, Some, None}
 use Rattle.units.specs.declared.Points.{Points}
 use Rattle.units.specs.declared.Parts.{Parts}
-use Rattle.units.specs.declared.Scale.{Scale}
-use Rattle.units.specs.declared.NewScale.{NewScale}
-use Rattle.units.specs.declared.NewScale.TheVariants.{Within, Outside}
 
 abbrev pub the_points : ℕ → Points
 the_points n = record { 0 = n }
 
 abbrev pub the_parts : ℕ → Parts
 the_parts n = record { 0 = n }
-
-abbrev pub the_scale : ℕ → Scale
-the_scale n = record { 0 = n }
 
 -- 'The scale of a problem carries its own limits, 1 and 1000'
 abbrev pub scale_min : ℕ
@@ -22,23 +16,23 @@ scale_min = 1
 abbrev pub scale_max : ℕ
 scale_max = 1000
 
--- a scale within its limits
-pub record Sound (s : Scale) : Type 0 where
-  pub low : scale_min ≤ s.0
-  pub high : s.0 ≤ scale_max
+-- a scale within its limits, as every scale is
+pub record Sound (s : ℕ) : Type 0 where
+  pub low : scale_min ≤ s
+  pub high : s ≤ scale_max
 
--- the scale of a number, where the number is within the limits
-abbrev pub new_scale : ℕ → NewScale
-new_scale s = cond (ltb s scale_min) Outside (cond (ltb scale_max s) Outside (Within (the_scale s)))
+-- the scale of a number, where the number is within the limits; a scale is seen as its number
+abbrev pub new_scale : ℕ → Option ℕ
+new_scale s = cond (ltb s scale_min) None (cond (ltb scale_max s) None (Some s))
 
 -- 'one point is s parts'
-abbrev pub in_parts : Scale → Points → Parts
-in_parts s p = the_parts (s.0 * p.0)
+abbrev pub in_parts : ℕ → Points → Parts
+in_parts s p = the_parts (s * p.0)
 
 -- 'the least whole number of points not below c0', of c0 parts at scale s
 unfoldable pub rounded_up : ℕ → ℕ → ℕ
 rounded_up s c = (c + (s - 1)) / s
 
 -- 'The published bound' of c parts
-abbrev pub published : Scale → Parts → Points
-published s c = the_points (rounded_up s.0 c.0)
+abbrev pub published : ℕ → Parts → Points
+published s c = the_points (rounded_up s c.0)

@@ -1,7 +1,6 @@
 -- Two shapes that agree where they are used have the same weights, and these weigh the same.
 use mathlib.Core.Path.{◌≡◌, sym, ap, ap₂, ◌∙◌}
-use mathlib.Core.Bool.{false}
-use Prim.Native.Nat.{ℕ, ◌+◌, ◌*◌, ◌<◌}
+use Prim.Native.Nat.{ℕ, ◌*◌}
 use native.Mathlib.Omega.{arith}
 use Rattle.theory.specs.Sum.{sum}
 use Rattle.theory.proofs.Sum.{sum_cong}

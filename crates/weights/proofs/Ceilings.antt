@@ -1,6 +1,6 @@
 -- The ceiling holds against every rival by lifts and moves: over the product of all its denominators its amounts are naturals, and what it leaves is a rewriting of the costs,
 -- which keeps their weighted total. W times its constant is at most that, since no open entry is below 0.
-use mathlib.Core.Path.{◌≡◌, refl, sym, ap, subst, ◌∙◌}
+use mathlib.Core.Path.{◌≡◌, refl, subst}
 use mathlib.Core.Bool.{Bool, true, false, cond}
 use Prim.Native.Nat.{ℕ, ◌+◌, ◌*◌, ◌-◌, ◌≤◌, ◌<◌, ◌∣◌}
 use native.Mathlib.Nat.{mul-add, mul_comm, mul-pos, zero-mul, dvd-mul_left, dvd-mul_right, dvd-mul_left_of_dvd, dvd-mul_right_of_dvd, dvd_trans}
@@ -9,10 +9,10 @@ use lib.Dec.{eqb}
 use borrow.Author.Tests.{eqb-true}
 use Rattle.theory.specs.Sum.{sum}
 use Rattle.tables.specs.Plans.{Costs, Shape}
-use Rattle.certificates.specs.Rival.{Fraction, as_fraction, plus, times, sum_of, AtMost, scaled}
+use Rattle.certificates.specs.Rival.{Fraction, as_fraction, sum_of, scaled}
 use Rattle.certificates.proofs.Fractions.{Over, over_number, over_plus, over_times, over_sum, at_most_over, over_at_most, up as numerator, up_over, prod, prod_divides, prod_above}
 use Rattle.tables.proofs.Plans.{Shaped}
-use Rattle.certificates.specs.Certify.{Weights, over_choices, over_pairs, weighted}
+use Rattle.certificates.specs.Certify.{Weights, weighted}
 use Rattle.certificates.proofs.Agrees.{Agrees}
 use Rattle.certificates.proofs.Rivals.{weighted-scaled}
 use Rattle.weights.specs.Weights.{Spares}

@@ -8,7 +8,7 @@ use Rattle.tables.specs.WellFormed.{Study}
 use Rattle.tables.specs.Plans.{shape_of, loaded_costs, held_costs}
 use Rattle.tables.proofs.Plans.{study_shaped}
 use Rattle.certificates.specs.Certify.{Weights, balanced, spared, weighted, certificate}
-use Rattle.certificates.specs.declared.certify.Certificate.TheVariants.{Balanced}
+use Rattle.std.specs.Prelude.{Ok}
 use Rattle.certificates.specs.declared.certify.Ceiling.{Ceiling}
 use Rattle.certificates.specs.Rival.{scaled}
 use Rattle.weights.specs.Rival.{Amounts, Leaves, LiftsAtMost}
@@ -25,7 +25,7 @@ certified-ceiling {b} s x w e f up down l = weighs_ceiling (study_shaped s) x w 
 
 -- so it is of a certificate as it is answered
 pub certify_moved : {b : List ℤ} → Study b → Weighs (shape_of b) (scale b) (loaded_costs b) (held_costs b)
-    → (w : Weights) {c : Ceiling} → certificate b w ≡ Balanced c
+    → (w : Weights) {c : Ceiling} → certificate b w ≡ Ok c
     → (up down : Amounts) → Leaves (shape_of b) (scaled (scale b) (loaded_costs b)) up down
     → LiftsAtMost (shape_of b) w.full_weight c.weighted up down
 certify_moved {b} s x w e up down l =

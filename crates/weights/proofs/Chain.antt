@@ -1,12 +1,12 @@
 -- A chain of moves over whole numbers is a rewriting. At each place, what stands there at the end, with what was lost on the way, is what stood there, with what was gained.
 -- One move changes the places of one run and the place that it goes to; moves after one another add up; and where both ends are natural the equation is one of naturals.
-use mathlib.Core.Path.{◌≡◌, refl, sym, ap, ap₂, ◌∙◌}
+use mathlib.Core.Path.{◌≡◌, refl, sym, ap₂, ◌∙◌}
 use mathlib.Core.List.{List}
 use mathlib.Core.Logic.{◌⊎◌, inl, inr, ⊎_elim, ◌≢◌}
 use Prim.Native.Nat.{ℕ, ◌+◌, ◌<◌, ◌≤◌}
 use native.Mathlib.Decide.{ℕ_discrete}
 use native.Mathlib.Omega.{arith}
-use lib.IntN.{ℤ, pos}
+use lib.IntN.{ℤ}
 use lib.ListN.{length}
 use Rattle.theory.specs.Sum.{sum}
 use Rattle.tables.specs.Block.{block_length, max_trains, max_choices, constant_place, held_entries_from, held_choice_place, held_entry_place, at, trains, pairs, size, first, second}

@@ -1,7 +1,7 @@
 -- A plan is weights with W = 1 that agree and spare what is forbidden, and its total is their weighted total: so every rewriting keeps the total of every plan.
 use mathlib.Core.Path.{◌≡◌, refl, sym, ap, ◌∙◌}
 use mathlib.Core.Bool.{Bool, true, false}
-use Prim.Native.Nat.{ℕ, ◌+◌, ◌*◌, ◌<◌}
+use Prim.Native.Nat.{ℕ, ◌*◌, ◌<◌}
 use native.Mathlib.Nat.{mul-one, mul_assoc, mul-zero, zero-mul}
 use native.Mathlib.Decide.{ℕ_discrete}
 use native.Mathlib.Omega.{arith}
@@ -11,7 +11,7 @@ use Rattle.theory.proofs.Range.{not_both}
 use Rattle.tables.specs.Plans.{Costs, Shape, IsPlan, choice_total, pair_total, total}
 use Rattle.theory.proofs.Sum.{sum_cong, sum-scale, sum_one, sum-zero, sum_pick}
 use Rattle.tables.proofs.Plans.{Shaped, plan_first, plan_second}
-use Rattle.certificates.specs.Certify.{Weights, over_choices, over_pairs, weighted}
+use Rattle.certificates.specs.Certify.{over_choices, over_pairs, weighted}
 use Rattle.certificates.proofs.Agrees.{Agrees}
 use Rattle.weights.specs.Weights.{Spares, takes, plan_weights}
 use Rattle.weights.specs.Moves.{Moves, Rewritten}

@@ -1,8 +1,8 @@
 -- Every rewriting keeps the weighted total: each open entry's equation is taken with its weight and summed. What goes out of rows and columns comes to choices with the same
 -- weights, since rows and columns sum to the choices' weights; what goes out of a train's choices comes to the constant with W, since a train's weights sum to W.
-use mathlib.Core.Path.{◌≡◌, refl, ap, ap₂, sym, ◌∙◌}
+use mathlib.Core.Path.{◌≡◌, refl, ap, ap₂, ◌∙◌}
 use mathlib.Core.Bool.{Bool, true, false, cond}
-use Prim.Native.Nat.{ℕ, ◌+◌, ◌*◌, ◌<◌}
+use Prim.Native.Nat.{ℕ, ◌+◌, ◌*◌}
 use native.Mathlib.Nat.{mul-add}
 use native.Mathlib.Omega.{arith}
 use lib.Dec.{eqb}

@@ -1,6 +1,6 @@
 -- What every call keeps between the held costs and the loaded ones: by all weights that agree and spare what is forbidden, the held costs weigh s times what the loaded ones do.
 -- A load begins it, an addition and every rewriting keep it; totals of plans and the ceiling against every rival by lifts and moves follow from it.
-use mathlib.Core.Path.{◌≡◌, refl, sym, ap, ap₂, ◌∙◌}
+use mathlib.Core.Path.{◌≡◌, sym, ap, ap₂, ◌∙◌}
 use mathlib.Core.Bool.{true}
 use Prim.Native.Nat.{ℕ, ◌+◌, ◌*◌, ◌≤◌, ◌<◌}
 use native.Mathlib.Nat.{mul-add, le_antisymm, le_of_mul-le-mul_left}

@@ -1,7 +1,7 @@
 -- Weights of a certificate: their sums agree, and none stands on what is forbidden.
 use Rattle.std.specs.Prelude.{◌≡◌, false, cond, ℕ, ◌*◌, ◌<◌, eqb}
 use Rattle.certificates.specs.Certify.{Weights}
-use Rattle.tables.specs.Plans.{Costs, Shape}
+use Rattle.tables.specs.Plans.{Shape}
 
 -- no 'weight above 0 on a forbidden entry'
 pub record Spares (s : Shape) (w : Weights) : Type 0 where

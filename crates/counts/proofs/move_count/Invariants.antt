@@ -1,12 +1,8 @@
+-- The moves of the pairs so far are summed.
 use mathlib.Core.Path.{◌≡◌}
-use Prim.Native.Nat.{◌-◌, ◌≤◌}
-use Rattle.tables.specs.Block.{pairs}
 use Rattle.tables.specs.Plans.{shape_of}
 use Rattle.tables.specs.Counts.{moves_before}
 use Rattle.counts.proofs.move_count.Given as goal
 
 abbrev pub invariant-loop-k : goal.invariant-loop-k
-invariant-loop-k l = (l.m ≡ pairs l.b) × (l.k ≤ l.m) × (l.count ≡ moves_before (shape_of l.b) l.k)
-
-abbrev pub decreases-loop-k : goal.decreases-loop-k
-decreases-loop-k l = l.m - l.k
+invariant-loop-k l = l.count ≡ moves_before (shape_of l.study.numbers.now) l.k

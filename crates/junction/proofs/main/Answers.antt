@@ -1,11 +1,19 @@
--- The program stands behind the parts that it has read: each turn is one part more. The reads left count down.
-use borrow.Author.Tests.{not-false}
+-- The program stands behind the parts that it has read: each turn is one part more.
+use mathlib.Core.Bool.{false}
+use mathlib.Core.Path.{◌≡◌, refl, sym, ◌∙◌}
+use Rattle.std.proofs.Common.{ControlFlow, Continue, Break}
+use Rattle.std.specs.Option.{is_some}
+use Rattle.std.specs.ControlFlow.{break_value}
 use Rattle.stream.proofs.Over.{after_none, after_part}
 use Rattle.junction.proofs.main.Goals as goal
 
-pub loop-reads-init : goal.loop-reads-init
-loop-reads-init c = after_none _
+goes_on : (f : ControlFlow Unit Unit) → is_some (break_value f) ≡ false → f ≡ Continue tt
+goes_on (Continue u) e = refl
+goes_on (Break u) e = cc
 
-pub loop-reads-preserved : goal.loop-reads-preserved
-loop-reads-preserved c =
-    after_part c.loop-reads.invariant _ (c.answer_read-kept.ensures.leaves (not-false _ c.if-not-kept.false))
+pub loop-init : goal.loop-init
+loop-init c = rw c.new-line.ensures after_none
+
+pub loop-preserved : goal.loop-preserved
+loop-preserved c =
+    after_part c.loop.invariant _ (c.answer_read.ensures.leaves _ (goes_on c.answer_read.result (sym c.is_break.ensures ∙ c.if-is_break.false)))

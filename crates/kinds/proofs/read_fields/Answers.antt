@@ -1,38 +1,36 @@
--- Each kind has its own case; a kind that needs a study was given one.
+-- A kind that needs a study is declined on a fresh block.
+use mathlib.Core.Path.{◌≡◌, refl}
+use mathlib.Core.Bool.{true}
+use mathlib.Core.List.{List}
+use Prim.Native.Nat.{ℕ}
+use Rattle.theory.specs.Range.{pass}
+use Rattle.refusals.specs.declared.Refusal.TheVariants.{FreshBlock}
+use Rattle.tables.specs.declared.block.Block.{Block}
+use Rattle.tables.specs.declared.block.Block.TheVariants.{Fresh}
+use Rattle.tables.specs.Known.{numbers_of}
+use Rattle.tables.specs.WellFormed.{is_zero, is_fresh, fresh_block}
+use Rattle.lines.specs.declared.kind.Kind.{Kind}
+use Rattle.lines.specs.declared.request.Line.TheVariants.{Refused}
+use Rattle.lines.specs.Kinds.{needs_study}
+use Rattle.kinds.specs.Lines.{study_line}
+use Rattle.kinds.proofs.read_fields.Goals.{in_default-Fresh-via-in-Add+in-Fresh, in_default-Fresh-via-in-Shift+in-Fresh, in_default-Fresh-via-in-Tighten+in-Fresh, in_default-Fresh-via-in-Certify+in-Fresh, in_default-Fresh-via-in-Search+in-Fresh, in_default-Fresh-via-in-Save+in-Fresh, in_default-Fresh-via-in-Round+in-Fresh}
 use Rattle.kinds.proofs.read_fields.Goals as goal
 
-pub read_add-requires : goal.read_add-requires
-read_add-requires c = (c.requires.0, c.requires.1 (rw c.in-Add.is))
+fresh_is : is_fresh fresh_block ≡ true
+unfolding is_fresh pass is_zero
+fresh_is = refl
 
-pub read_shift-requires : goal.read_shift-requires
-read_shift-requires c = (c.requires.0, c.requires.1 (rw c.in-Shift.is))
+lacks : (x : Kind) (l : List ℕ) (y : Block) {k : Kind} → x ≡ k → y ≡ Fresh → needs_study k ≡ true → Refused FreshBlock ≡ study_line x l (numbers_of y)
+unfolding study_line
+lacks x l y p q e = rw (p, q, e, fresh_is)
 
-pub read_certify-requires : goal.read_certify-requires
-read_certify-requires c = (c.requires.0, c.requires.1 (rw c.in-Certify.is))
-
-pub returns-in-Load : goal.returns-in-Load
-returns-in-Load c = rw c.in-Load.is c.read_load.ensures
-
-pub returns-in-Add : goal.returns-in-Add
-returns-in-Add c = rw c.in-Add.is c.read_add.ensures
-
-pub returns-in-Shift : goal.returns-in-Shift
-returns-in-Shift c = rw c.in-Shift.is c.read_shift.ensures
-
-pub returns-in-Tighten : goal.returns-in-Tighten
-returns-in-Tighten c = rw c.in-Tighten.is c.read_bare.ensures
-
-pub returns-in-Certify : goal.returns-in-Certify
-returns-in-Certify c = rw c.in-Certify.is c.read_certify.ensures
-
-pub returns-in-Search : goal.returns-in-Search
-returns-in-Search c = rw c.in-Search.is c.read_search.ensures
-
-pub returns-in-Save : goal.returns-in-Save
-returns-in-Save c = rw c.in-Save.is c.read_bare-in-Save.ensures
-
-pub returns-in-Round : goal.returns-in-Round
-returns-in-Round c = rw c.in-Round.is c.read_bare-in-Round.ensures
-
-pub returns-in-Clauses : goal.returns-in-Clauses
-returns-in-Clauses c = rw c.in-Clauses.is c.read_clauses.ensures
+pub returns-in_default-Fresh : goal.returns-in_default-Fresh
+returns-in_default-Fresh c = elim c.in_default-Fresh.branch [
+  | in_default-Fresh-via-in-Add+in-Fresh w ↦ lacks _ _ _ w.in_default-Fresh.is-0 w.in_default-Fresh.is-1 refl
+  | in_default-Fresh-via-in-Shift+in-Fresh w ↦ lacks _ _ _ w.in_default-Fresh.is-0 w.in_default-Fresh.is-1 refl
+  | in_default-Fresh-via-in-Tighten+in-Fresh w ↦ lacks _ _ _ w.in_default-Fresh.is-0 w.in_default-Fresh.is-1 refl
+  | in_default-Fresh-via-in-Certify+in-Fresh w ↦ lacks _ _ _ w.in_default-Fresh.is-0 w.in_default-Fresh.is-1 refl
+  | in_default-Fresh-via-in-Search+in-Fresh w ↦ lacks _ _ _ w.in_default-Fresh.is-0 w.in_default-Fresh.is-1 refl
+  | in_default-Fresh-via-in-Save+in-Fresh w ↦ lacks _ _ _ w.in_default-Fresh.is-0 w.in_default-Fresh.is-1 refl
+  | in_default-Fresh-via-in-Round+in-Fresh w ↦ lacks _ _ _ w.in_default-Fresh.is-0 w.in_default-Fresh.is-1 refl
+]

@@ -1,13 +1,8 @@
-use mathlib.Core.Path.{◌≡◌}
-use Prim.Native.Nat.{◌-◌, ◌≤◌}
-use lib.ListN.{length}
+use Rattle.std.proofs.Common.{◌≡◌}
 use Rattle.theory.specs.Fold.{iter}
 use Rattle.tables.specs.Block.{at}
 use Rattle.rewriting.specs.Moves.{project_unary}
 use Rattle.shift.proofs.lift_trains.Given as goal
 
 abbrev pub invariant-loop-i : goal.invariant-loop-i
-invariant-loop-i l = (l.i ≤ l.n) × (length l.b ≡ length l.initial.b) × (l.b ≡ iter l.i (λ i. project_unary i (at l.lifts i)) l.initial.b)
-
-abbrev pub decreases-loop-i : goal.decreases-loop-i
-decreases-loop-i l = l.n - l.i
+invariant-loop-i l = l.b ≡ iter l.i (λ i. project_unary i (at l.lifts i)) l.initial.b

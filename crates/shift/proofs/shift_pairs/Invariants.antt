@@ -1,6 +1,4 @@
-use mathlib.Core.Path.{◌≡◌}
-use Prim.Native.Nat.{◌-◌, ◌≤◌}
-use lib.ListN.{length}
+use Rattle.std.proofs.Common.{◌≡◌}
 use Rattle.theory.specs.Fold.{iter}
 use Rattle.tables.specs.Plans.{shape_of}
 use Rattle.tables.specs.Counts.{moves_before}
@@ -8,7 +6,5 @@ use Rattle.shift.specs.Shift.{pair_shifted}
 use Rattle.shift.proofs.shift_pairs.Given as goal
 
 abbrev pub invariant-loop-k : goal.invariant-loop-k
-invariant-loop-k l = (l.k ≤ l.m) × (length l.b ≡ length l.initial.b) × (l.start ≡ moves_before (shape_of l.initial.b) l.k) × (l.b ≡ iter l.k (λ k. pair_shifted l.moves (moves_before (shape_of l.initial.b) k) k) l.initial.b)
-
-abbrev pub decreases-loop-k : goal.decreases-loop-k
-decreases-loop-k l = l.m - l.k
+invariant-loop-k l =
+    (l.start ≡ moves_before (shape_of l.initial.b) l.k) × (l.b ≡ iter l.k (λ k. pair_shifted l.moves (moves_before (shape_of l.initial.b) k) k) l.initial.b)

@@ -1,34 +1,33 @@
 -- The cells hold what the clauses so far charge, and each turn adds one clause.
-use mathlib.Core.Path.{◌≡◌}
+use mathlib.Core.Path.{sym, ◌∙◌}
+use Prim.Native.Nat.{◌<◌}
 use native.Mathlib.Omega.{arith}
-use lib.ListN.{length}
-use Rattle.clauses.specs.Clauses.{clauses}
+use Rattle.clauses.specs.Clauses.{count}
+use Rattle.clauses.specs.Given.{clauses_given}
+use Rattle.clauses.proofs.Given.{given_count, given_first, given_second, given_weight, given_cell}
 use Rattle.clauses.proofs.Turns.{charged_none, charged_more, cost_most}
 use Rattle.clauses.proofs.charges.charge.Goals as goal
 
-pub loop-k-init : goal.loop-k-init
-loop-k-init c = let a = c.args in (omega arith, charged_none (clauses a.firsts.now a.seconds.now a.weights.now) a.cells.now c.requires.0)
+pub loop-clause-init : goal.loop-clause-init
+loop-clause-init c = charged_none (clauses_given c.args.clauses.now)
 
-pub clause_cell-o-requires : goal.clause_cell-o-requires
-clause_cell-o-requires c =
-    let g = c.requires.1 in
-    (omega (arith, g.same), omega (arith, g.same), g.literals c.loop-k.k c.loop-k-test.true)
-
-pub bounds-cells-o : goal.bounds-cells-o
-bounds-cells-o c = omega (arith, c.loop-k.invariant.1.whole, c.clause_cell-o.ensures.1)
+pub clause_cell-requires : goal.clause_cell-requires
+clause_cell-requires c =
+    let l = c.args.clauses.now in
+    let k = c.loop-clause.clause-index in
+    rw (← given_first l k, ← given_second l k) (c.requires.literals k (omega (arith, given_count l)))
 
 pub overflow_add-cells : goal.overflow_add-cells
 overflow_add-cells c =
-    let a = c.args in
-    omega (arith, c.loop-k.invariant.1.costs c.clause_cell-o.result c.clause_cell-o.ensures.1, cost_most (clauses a.firsts.now a.seconds.now a.weights.now) c.requires.1 c.loop-k.k c.clause_cell-o.result c.loop-k.invariant.0, c.requires.1.few, c.requires.1.weights c.loop-k.k (omega arith))
+    let l = c.args.clauses.now in
+    let k = c.loop-clause.clause-index in
+    let o = c.clause_cell.result in
+    let h : k < count (clauses_given l) = omega (arith, given_count l) in
+    omega (arith, c.loop-clause.invariant.costs o c.clause_cell.ensures.bound, cost_most (clauses_given l) c.requires k o (omega arith), c.requires.few, c.requires.weights k h, given_weight l k)
 
-pub bounds-cells-o-in-loop-k : goal.bounds-cells-o-in-loop-k
-bounds-cells-o-in-loop-k c = omega (arith, c.loop-k.invariant.1.whole, c.clause_cell-o.ensures.1)
-
-pub loop-k-preserved : goal.loop-k-preserved
-loop-k-preserved c =
-    let a = c.args in
-    (omega arith, charged_more (clauses a.firsts.now a.seconds.now a.weights.now) c.loop-k.k c.loop-k.cells c.loop-k.invariant.1 c.clause_cell-o.ensures.0 c.clause_cell-o.ensures.1)
-
-pub returns : goal.returns
-returns c = let e : c.loop-k.k ≡ length c.args.weights.now = omega arith in rw e at c.loop-k.invariant.1
+pub loop-clause-preserved : goal.loop-clause-preserved
+loop-clause-preserved c =
+    let l = c.args.clauses.now in
+    let k = c.loop-clause.clause-index in
+    rw (← given_weight l k)
+    (charged_more (clauses_given l) k c.loop-clause.cells c.loop-clause.invariant (c.clause_cell.ensures.value ∙ sym (given_cell l k)) c.clause_cell.ensures.bound)

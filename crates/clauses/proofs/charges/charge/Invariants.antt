@@ -1,11 +1,6 @@
-use Prim.Native.Nat.{◌-◌, ◌≤◌}
-use lib.ListN.{length}
-use Rattle.clauses.specs.Clauses.{clauses}
+use Rattle.clauses.specs.Given.{clauses_given}
 use Rattle.clauses.specs.Charges.{Charged}
 use Rattle.clauses.proofs.charges.charge.Given as goal
 
-abbrev pub invariant-loop-k : goal.invariant-loop-k
-invariant-loop-k l = (l.k ≤ length l.weights) × (Charged (clauses l.firsts l.seconds l.weights) l.k l.cells)
-
-abbrev pub decreases-loop-k : goal.decreases-loop-k
-decreases-loop-k l = length l.weights - l.k
+abbrev pub invariant-loop-clause : goal.invariant-loop-clause
+invariant-loop-clause l = Charged (clauses_given l.clauses) l.clause-index l.cells

@@ -1,26 +1,22 @@
 -- The codes of the clauses so far are marked, and each turn marks one more.
-use mathlib.Core.Path.{◌≡◌}
+use mathlib.Core.Path.{sym, ◌∙◌}
 use native.Mathlib.Omega.{arith}
-use lib.ListN.{length}
-use Rattle.clauses.specs.Clauses.{clauses}
+use Rattle.clauses.specs.Given.{clauses_given}
+use Rattle.clauses.proofs.Given.{given_count, given_first, given_second, given_cell}
 use Rattle.clauses.proofs.Turns.{marked_none, marked_more}
 use Rattle.clauses.proofs.charges.mark.Goals as goal
 
-pub loop-k-init : goal.loop-k-init
-loop-k-init c = let a = c.args in (omega arith, marked_none (clauses a.firsts.now a.seconds.now a.weights.now) a.marks.now c.requires.0)
+pub loop-clause-init : goal.loop-clause-init
+loop-clause-init c = marked_none (clauses_given c.args.clauses.now)
 
-pub clause_cell-o-requires : goal.clause_cell-o-requires
-clause_cell-o-requires c =
-    let g = c.requires.1 in
-    (omega (arith, g.same), omega (arith, g.same), g.literals c.loop-k.k c.loop-k-test.true)
+pub clause_cell-requires : goal.clause_cell-requires
+clause_cell-requires c =
+    let l = c.args.clauses.now in
+    let k = c.loop-clause.clause-index in
+    rw (← given_first l k, ← given_second l k) (c.requires.literals k (omega (arith, given_count l)))
 
-pub bounds-marks-o : goal.bounds-marks-o
-bounds-marks-o c = omega (arith, c.loop-k.invariant.1.whole, c.clause_cell-o.ensures.1)
-
-pub loop-k-preserved : goal.loop-k-preserved
-loop-k-preserved c =
-    let a = c.args in
-    (omega arith, marked_more (clauses a.firsts.now a.seconds.now a.weights.now) c.loop-k.k c.loop-k.marks c.loop-k.invariant.1 c.clause_cell-o.ensures.0 c.clause_cell-o.ensures.1)
-
-pub returns : goal.returns
-returns c = let e : c.loop-k.k ≡ length c.args.weights.now = omega arith in rw e at c.loop-k.invariant.1
+pub loop-clause-preserved : goal.loop-clause-preserved
+loop-clause-preserved c =
+    let l = c.args.clauses.now in
+    let k = c.loop-clause.clause-index in
+    marked_more (clauses_given l) k c.loop-clause.marks c.loop-clause.invariant (c.clause_cell.ensures.value ∙ sym (given_cell l k)) c.clause_cell.ensures.bound

@@ -1,37 +1,37 @@
--- The calls are the definition: a second literal of 0 is the first one again.
+-- The calls are the definition, of literals that are small.
+use mathlib.Core.Path.{◌∙◌}
 use native.Mathlib.Omega.{arith}
-use Rattle.tables.specs.Block.{max_trains, at}
-use Rattle.clauses.proofs.Cells.{literals_right_lem, failing_small, cell_alone, cell_both}
+use Rattle.tables.specs.Block.{max_trains}
+use Rattle.clauses.specs.Clauses.{cell_of, other_of}
+use Rattle.clauses.proofs.Words.{word_is}
+use Rattle.clauses.proofs.Cells.{literals_right_lem, other_right, failing_small}
 use Rattle.clauses.proofs.literals.clause_cell.Goals as goal
 
-pub size-i-requires : goal.size-i-requires
-size-i-requires c = let r = literals_right_lem max_trains (at c.args.firsts.now c.args.k) (at c.args.seconds.now c.args.k) c.requires.2 in (c.requires.0, r.first)
+pub train-requires : goal.train-requires
+train-requires c =
+    let z = c.args.clause in
+    let r = literals_right_lem max_trains z.first z.second c.requires in
+    rw (word_is z.first r.first) (r.some, r.first)
 
-pub overflow_sub-i : goal.overflow_sub-i
-overflow_sub-i c = let r = literals_right_lem max_trains (at c.args.firsts.now c.args.k) (at c.args.seconds.now c.args.k) c.requires.2 in omega (arith, c.size-i.ensures, r.some)
-
-pub fails-a-requires : goal.fails-a-requires
-fails-a-requires c = let r = literals_right_lem max_trains (at c.args.firsts.now c.args.k) (at c.args.seconds.now c.args.k) c.requires.2 in (c.requires.0, r.first)
-
-pub size-s-requires : goal.size-s-requires
-size-s-requires c = let r = literals_right_lem max_trains (at c.args.firsts.now c.args.k) (at c.args.seconds.now c.args.k) c.requires.2 in (c.requires.1, r.second)
+pub train-requires-2 : goal.train-requires-2
+train-requires-2 c =
+    let z = c.args.clause in
+    let r = other_right (literals_right_lem max_trains z.first z.second c.requires) in
+    rw (c.other-second.ensures, word_is (other_of z.first z.second) r.1) r
 
 pub cell-requires : goal.cell-requires
-cell-requires c = let r = literals_right_lem max_trains (at c.args.firsts.now c.args.k) (at c.args.seconds.now c.args.k) c.requires.2 in omega (arith, c.size-i.ensures, c.fails-a.ensures, failing_small (at c.args.firsts.now c.args.k), r.first, r.some)
+cell-requires c =
+    let z = c.args.clause.first in
+    let w = other_of c.args.clause.first c.args.clause.second in
+    let r = literals_right_lem max_trains z c.args.clause.second c.requires in
+    let s = other_right r in
+    rw (c.train.ensures, c.failing.ensures, c.train-2.ensures, c.failing-2.ensures, c.other-second.ensures, word_is z r.first, word_is w s.1)
+    (omega (arith, r.some, r.first), failing_small z, omega arith, failing_small w)
 
-pub returns-then-s-eq0 : goal.returns-then-s-eq0
-returns-then-s-eq0 c = let r = literals_right_lem max_trains (at c.args.firsts.now c.args.k) (at c.args.seconds.now c.args.k) c.requires.2 in
-    (cell_alone c.args.firsts.now c.args.seconds.now c.args.k c.size-i.ensures c.fails-a.ensures c.size-s.ensures c.if-s-eq0.true c.cell.ensures.0, c.cell.ensures.1)
-
-pub fails-c-requires : goal.fails-c-requires
-fails-c-requires c = let r = literals_right_lem max_trains (at c.args.firsts.now c.args.k) (at c.args.seconds.now c.args.k) c.requires.2 in (c.requires.1, r.second)
-
-pub overflow_sub-s : goal.overflow_sub-s
-overflow_sub-s c = omega arith
-
-pub cell-requires-2 : goal.cell-requires-2
-cell-requires-2 c = let r = literals_right_lem max_trains (at c.args.firsts.now c.args.k) (at c.args.seconds.now c.args.k) c.requires.2 in omega (arith, c.size-i.ensures, c.fails-a.ensures, c.size-s.ensures, c.fails-c.ensures, failing_small (at c.args.firsts.now c.args.k), failing_small (at c.args.seconds.now c.args.k), r.first, r.some, r.second)
-
-pub returns : goal.returns
-returns c = let r = literals_right_lem max_trains (at c.args.firsts.now c.args.k) (at c.args.seconds.now c.args.k) c.requires.2 in
-    (cell_both c.args.firsts.now c.args.seconds.now c.args.k c.size-i.ensures c.fails-a.ensures c.size-s.ensures c.fails-c.ensures c.if-s-eq0.false c.cell-2.ensures.0, c.cell-2.ensures.1)
+pub returns-clause-value : goal.returns-clause-value
+unfolding cell_of
+returns-clause-value c =
+    let z = c.args.clause.first in
+    let w = other_of c.args.clause.first c.args.clause.second in
+    let r = literals_right_lem max_trains z c.args.clause.second c.requires in
+    c.cell.ensures.value ∙ rw (c.train.ensures, c.failing.ensures, c.train-2.ensures, c.failing-2.ensures, c.other-second.ensures, word_is z r.first, word_is w (other_right r).1)

@@ -1,24 +1,24 @@
--- The costs so far stand in their places, and each turn stores one.
-use borrow.Author.Rules.{rules}
-use mathlib.Core.Path.{◌≡◌, refl, ◌∙◌}
+-- The costs so far are listed, and each turn lists one.
+use mathlib.Core.Path.{sym, ap, ◌∙◌}
+use mathlib.Core.List.{List}
+use Prim.Native.Nat.{ℕ}
 use native.Mathlib.Omega.{arith}
 use lib.ListN.{length}
-use lib.Seq.{paste-zero}
-use Rattle.theory.specs.Lists.{nth, list_of}
-use Rattle.theory.proofs.Lists.{list_length, paste_next, paste_all}
+use Rattle.theory.specs.Lists.{nth}
+use Rattle.theory.proofs.Lists.{list_length}
+use Rattle.operations.proofs.Grown.{list_begun, list_turn}
 use Rattle.clauses.specs.Clauses.{choice_cost_at}
 use Rattle.clauses.proofs.loads.list_choices.Goals as goal
 
 pub loop-o-init : goal.loop-o-init
-loop-o-init c = let a = c.args in (omega arith, refl, paste-zero a.out.now 0 (list_of (length a.out.now) (choice_cost_at (nth a.cells.now))))
+loop-o-init c = c.new-choices.ensures ∙ sym (list_begun _)
+
+pub push-requires : goal.push-requires
+push-requires c =
+    let e = ap (λ (l : List ℕ). length l) c.loop-o.invariant ∙ list_length (choice_cost_at (nth c.args.cells.now)) c.loop-o.o in
+    omega arith
 
 pub loop-o-preserved : goal.loop-o-preserved
 loop-o-preserved c =
-    let a = c.args in
-    (omega arith, search rules, rw c.loop-o.invariant.2 (paste_next a.out.now (choice_cost_at (nth a.cells.now)) (length a.out.now) 0 c.loop-o.o (omega arith) (omega arith) refl))
-
-pub returns : goal.returns
-returns c =
-    let a = c.args in
-    let e : c.loop-o.o ≡ length a.out.now = omega arith in
-    rw e at c.loop-o.invariant.2 ∙ paste_all a.out.now (list_of (length a.out.now) (choice_cost_at (nth a.cells.now))) (list_length _ (length a.out.now))
+    let l = c.args.cells.now in
+    list_turn (choice_cost_at (nth l)) c.loop-o.o c.loop-o.invariant (ap (nth l) c.cell_at.ensures.value) c.push.ensures.items

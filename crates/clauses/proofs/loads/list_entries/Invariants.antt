@@ -1,13 +1,7 @@
 use mathlib.Core.Path.{◌≡◌}
-use Prim.Native.Nat.{◌-◌, ◌≤◌}
-use lib.ListN.{length}
-use lib.Seq.{paste}
 use Rattle.theory.specs.Lists.{nth, list_of}
 use Rattle.clauses.specs.Clauses.{entry_cost_at}
 use Rattle.clauses.proofs.loads.list_entries.Given as goal
 
 abbrev pub invariant-loop-o : goal.invariant-loop-o
-invariant-loop-o l = (l.o ≤ length l.initial.out) × (length l.out ≡ length l.initial.out) × (l.out ≡ paste l.initial.out 0 (list_of (length l.initial.out) (entry_cost_at (nth l.cells) l.codes)) l.o)
-
-abbrev pub decreases-loop-o : goal.decreases-loop-o
-decreases-loop-o l = length l.initial.out - l.o
+invariant-loop-o l = l.entries.items ≡ list_of l.o (entry_cost_at (nth l.cells) l.codes)

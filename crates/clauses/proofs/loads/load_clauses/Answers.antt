@@ -1,47 +1,68 @@
 -- The cells hold the costs and the codes are the pairs, so the numbers are those of the clauses.
-use borrow.Author.Rules.{rules}
-use mathlib.Core.Path.{sym, ap, ◌∙◌}
+use mathlib.Core.Path.{◌≡◌, sym, ap, ◌∙◌}
+use mathlib.Core.Bool.{Bool}
+use mathlib.Core.List.{List}
+use Prim.Native.Nat.{ℕ, ◌≤◌}
 use native.Mathlib.Omega.{arith}
 use lib.ListN.{length}
-use Rattle.tables.specs.Block.{max_trains}
-use Rattle.clauses.specs.Clauses.{clauses}
+use Rattle.tables.specs.Block.{max_trains, max_pairs}
+use Rattle.operations.specs.declared.load_numbers.LoadNumbers.{LoadNumbers}
+use Rattle.operations.specs.Load.{loaded_block}
+use Rattle.operations.specs.Given.{numbers_given}
+use Rattle.clauses.specs.Given.{clauses_given}
+use Rattle.clauses.specs.Clauses.{pair_codes, clause_numbers, sums_within}
 use Rattle.clauses.proofs.Cells.{clear_wider}
 use Rattle.clauses.proofs.Ranges.{in_range_lem}
-use Rattle.clauses.proofs.Loading.{pairs_few, codes_small, clauses-numbers, as_range, as_outcome, pairs-declined, pairs_taken}
+use Rattle.clauses.proofs.Loading.{codes_small, clauses_made, pairs-declined, sums-declined, sums_taken}
+use Rattle.clauses.proofs.loads.load_clauses.Goals.{After-sums_within}
 use Rattle.clauses.proofs.loads.load_clauses.Goals as goal
 
-pub charge-requires : goal.charge-requires
-charge-requires c = (search rules, clear_wider max_trains c.requires.1.trains.1 c.requires.1.clear)
+pub name_pairs-codes-requires : goal.name_pairs-codes-requires
+name_pairs-codes-requires c = clear_wider max_trains c.requires.trains.1 c.requires.clear
 
-pub name_pairs-m-requires : goal.name_pairs-m-requires
-name_pairs-m-requires c = (search rules, clear_wider max_trains c.requires.1.trains.1 c.requires.1.clear)
-
-pub returns-then-m-gt-PAIRS : goal.returns-then-m-gt-PAIRS
-returns-then-m-gt-PAIRS c =
+pub returns-then-len-gt-PAIRS : goal.returns-then-len-gt-PAIRS
+returns-then-len-gt-PAIRS c =
     let a = c.args in
-    let w = pairs-declined a.n a.scale.0 (clauses a.firsts.now a.seconds.now a.weights.now) c.name_pairs-m.ensures.0 a.block.now c.if-m-gt-PAIRS.true in
+    let e = ap (λ (l : List ℕ). length l) c.name_pairs-codes.ensures in
+    let w = pairs-declined a.n a.scale (clauses_given a.clauses.now) a.block.now (omega (arith, c.len.ensures.value)) in
     record { value = w.0; block_after = w.1 }
 
-pub slice_bounds-codes-end : goal.slice_bounds-codes-end
-slice_bounds-codes-end c = let a = c.args in omega (arith, c.name_pairs-m.ensures.0, pairs_few (clauses a.firsts.now a.seconds.now a.weights.now))
+pub charge-requires : goal.charge-requires
+charge-requires c = clear_wider max_trains c.requires.trains.1 c.requires.clear
 
-pub slice_bounds-load_cells-end-2 : goal.slice_bounds-load_cells-end-2
-slice_bounds-load_cells-end-2 c = let w = c.name_pairs-m.ensures in w.0 ∙ sym (ap length w.1)
+pub numbers-numbers-requires : goal.numbers-numbers-requires
+numbers-numbers-requires c =
+    let e = ap (λ (l : List ℕ). length l) c.deref.ensures.0 in
+    (c.requires.trains.1, omega (arith, c.len.ensures.value), codes_small (clauses_given c.args.clauses.now) (c.deref.ensures.0 ∙ c.name_pairs-codes.ensures))
 
-pub load_cells-requires : goal.load_cells-requires
-load_cells-requires c =
+-- there are not too many pairs, and the numbers are those of the clauses
+module _ (c : After-sums_within) where
+  few : length (pair_codes (clauses_given c.args.clauses.now)) ≤ max_pairs
+  few = let e = ap (λ (l : List ℕ). length l) c.name_pairs-codes.ensures in omega (arith, c.len.ensures.value)
+
+  are : numbers_given c.numbers-numbers.result ≡ clause_numbers c.args.n c.args.scale (clauses_given c.args.clauses.now)
+  are =
+      clauses_made c.args.n c.args.scale c.args.clauses.now c.charge.result c.requires.trains.1 c.charge.ensures (c.deref.ensures.0 ∙ c.name_pairs-codes.ensures)
+      c.numbers-numbers.ensures
+
+  judged : {t : Bool} → t ≡ sums_within (numbers_given c.numbers-numbers.result) → sums_within (clause_numbers c.args.n c.args.scale (clauses_given c.args.clauses.now)) ≡ t
+  judged e = ap sums_within (sym are) ∙ sym e
+
+pub returns-then-not-sums_within : goal.returns-then-not-sums_within
+returns-then-not-sums_within c =
     let a = c.args in
-    let cs = (clauses a.firsts.now a.seconds.now a.weights.now) in
-    let w = c.name_pairs-m.ensures in record {
-      block_len = (c.requires.0, c.requires.1.trains.1, c.charge.ensures.whole, omega (arith, w.0, ap length w.1, c.if-m-gt-PAIRS.false), codes_small cs w.1);
-      in_range = as_range (clauses-numbers a.n a.scale.0 cs c.charge.new.cells c.requires.1.trains.1 c.charge.ensures w.1) (λ h. in_range_lem c.requires.1 (omega (arith, w.0, c.if-m-gt-PAIRS.false)) h);
-    }
+    let s = (goal.at.returns-then-not-sums_within c).After-sums_within in
+    let w = sums-declined a.n a.scale (clauses_given a.clauses.now) a.block.now (few s) (judged s c.if-not-sums_within.ensures) in
+    record { value = w.0; block_after = w.1 }
+
+pub known-requires : goal.known-requires
+known-requires c =
+    let s = (goal.at.known-requires c).After-sums_within in
+    rw (are s) (in_range_lem c.requires (few s) (judged s c.if-not-sums_within.ensures))
 
 pub returns : goal.returns
 returns c =
     let a = c.args in
-    let cs = (clauses a.firsts.now a.seconds.now a.weights.now) in
-    let w = c.name_pairs-m.ensures in
-    let t = pairs_taken a.n a.scale.0 cs w.0 a.block.now c.if-m-gt-PAIRS.false
-    (as_outcome (clauses-numbers a.n a.scale.0 cs c.charge.new.cells c.requires.1.trains.1 c.charge.ensures w.1) a.block.now (c.load_cells.ensures.value, c.load_cells.ensures.block_after)) in
-    record { value = t.0; block_after = t.1 }
+    let s = (goal.at.returns c).After-sums_within in
+    let w = sums_taken a.n a.scale (clauses_given a.clauses.now) a.block.now (few s) (judged s c.if-not-sums_within.ensures) in
+    record { value = w.0; block_after = c.load.ensures ∙ ap (λ (l : LoadNumbers). loaded_block (numbers_given l)) c.known.ensures ∙ ap loaded_block (are s) ∙ w.1 }

@@ -1,27 +1,28 @@
 -- The invariant: the clauses so far are fine.
-use mathlib.Core.Path.{◌≡◌, ap, ◌∙◌}
+use mathlib.Core.Path.{◌≡◌, sym, ◌∙◌}
 use native.Mathlib.Omega.{arith}
-use Rattle.refusals.proofs.Verdicts.{went_on, declined, first_none, first_more, stopped}
-use Rattle.lines.specs.Verdicts.{end_verdict}
+use Rattle.std.specs.Prelude.{Err}
+use Rattle.std.proofs.Common.{rules}
+use Rattle.refusals.specs.Verdicts.{first_of}
+use Rattle.refusals.proofs.Verdicts.{first_none, first_more, first_err}
 use Rattle.kinds.specs.Clauses.{clause_verdict, clause_run_verdict}
 use Rattle.kinds.proofs.clause_fields.clause_run_verdict.Goals as goal
 
 pub loop-k-init : goal.loop-k-init
-loop-k-init c = (omega arith, first_none _)
+loop-k-init c = first_none _
 
-pub returns-then-not-is_fine : goal.returns-then-not-is_fine
+pub returns-in_err-clause_verdict : goal.returns-in_err-clause_verdict
 unfolding clause_run_verdict
-returns-then-not-is_fine c =
-    let a = c.args in
-    let r = c.clause_verdict-clause.result in
-    declined r _ _ c.is_fine.ensures (stopped (clause_verdict a.line.now) a.count c.loop-k.k r (omega arith) c.loop-k.invariant.1 c.is_fine.ensures c.clause_verdict-clause.ensures c.if-not-is_fine.true-raw) c.if-not-is_fine.true-raw
+returns-in_err-clause_verdict c =
+    let r = c.in_err-clause_verdict.field-0.0 in
+    let e : first_of c.args.count (clause_verdict c.args.frame.line.now) ≡ Err r = first_err _ _ c.loop-k.k (omega arith) c.loop-k.invariant (sym c.clause_verdict.ensures ∙ c.in_err-clause_verdict.was) in
+    rw e (search rules)
 
 pub loop-k-preserved : goal.loop-k-preserved
-loop-k-preserved c =
-    (omega arith, first_more _ c.loop-k.k c.loop-k.invariant.1 (went_on c.clause_verdict-clause.result _ c.is_fine.ensures c.clause_verdict-clause.ensures c.if-not-is_fine.false-raw))
+loop-k-preserved c = first_more _ c.loop-k.k c.loop-k.invariant (sym c.clause_verdict.ensures ∙ c.in_ok-clause_verdict.was)
 
 pub returns : goal.returns
 unfolding clause_run_verdict
 returns c =
     let e : c.loop-k.k ≡ c.args.count = omega arith in
-    rw (rw e at c.loop-k.invariant.1, ← c.requires.0.whole) (c.end_verdict.ensures ∙ ap (end_verdict c.args.bytes) c.clause_at.ensures)
+    rw (rw e at c.loop-k.invariant, sym c.clause_at.ensures) c.end_verdict.ensures

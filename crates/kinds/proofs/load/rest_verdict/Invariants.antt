@@ -1,12 +1,17 @@
 use mathlib.Core.Path.{◌≡◌}
 use Prim.Native.Nat.{◌-◌, ◌≤◌}
-use Rattle.refusals.specs.declared.Verdict.TheVariants.{Fine}
+use Rattle.refusals.specs.Verdicts.{Fine}
+use Rattle.frames.specs.Digits.{bytes}
 use Rattle.lines.specs.Layout.{pair_at}
 use Rattle.kinds.specs.Load.{pairs_verdict}
 use Rattle.kinds.proofs.load.rest_verdict.Given as goal
 
 abbrev pub invariant-loop-k : goal.invariant-loop-k
-invariant-loop-k l = (l.k ≤ l.m) × (l.at ≡ pair_at l.line l.k) × (l.last ≡ pair_at l.line (l.k - 1)) × (l.last ≤ l.at) × (l.at ≤ l.bytes) × (pairs_verdict l.line l.k ≡ Fine)
-
-abbrev pub decreases-loop-k : goal.decreases-loop-k
-decreases-loop-k l = l.m - l.k
+invariant-loop-k l =
+    let line = l.load.frame.line.now in record {
+      at : l.at ≡ pair_at line l.k;
+      last : l.last ≡ pair_at line (l.k - 1);
+      behind : l.last ≤ l.at;
+      there : l.at ≤ bytes line;
+      fine : pairs_verdict line l.k ≡ Fine;
+    }

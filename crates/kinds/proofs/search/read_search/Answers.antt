@@ -8,12 +8,4 @@ use Rattle.kinds.proofs.search.read_search.Goals as goal
 pub number_in-requires : goal.number_in-requires
 unfolding search_verdict
 number_in-requires c =
-    omega (arith, (search_fine c.args.line.now (sym c.last_verdict.ensures ∙ c.in-Fine.is)).ends)
-
-pub returns-in-Declined : goal.returns-in-Declined
-unfolding search_verdict
-returns-in-Declined c = rw (← c.last_verdict.ensures, c.in-Declined.is)
-
-pub returns-in-Fine : goal.returns-in-Fine
-unfolding search_verdict
-returns-in-Fine c = rw (← c.last_verdict.ensures, c.in-Fine.is, c.number_in.ensures)
+    omega (arith, (search_fine c.args.frame.line.now (sym c.last_verdict.ensures ∙ c.in_ok-last_verdict.was)).ends)

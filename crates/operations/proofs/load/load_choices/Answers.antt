@@ -1,42 +1,68 @@
 -- Each turn stores the costs of one train, and the next train's costs begin where they end.
-use borrow.Author.Rules.{rules}
-use mathlib.Core.Path.{◌≡◌, refl, sym, ◌∙◌}
+use mathlib.Core.Path.{sym, ap}
+use mathlib.Core.List.{List}
+use Prim.Native.Nat.{ℕ, ◌+◌, ◌<◌, ◌≤◌}
 use native.Mathlib.Omega.{arith}
-use lib.ListN.{length}
+use lib.ListN.{length, drop, length-drop}
+use lib.Seq.{length-take-le}
 use Rattle.theory.specs.Lists.{nth}
 use Rattle.theory.proofs.Sum.{sum_none, sum_more, sum_part}
-use Rattle.theory.proofs.Fold.{iter-zero, iter-more}
-use Rattle.operations.specs.Load.{trains_shape}
-use Rattle.operations.proofs.LoadTurns.{train_turn, run_at}
+use Rattle.theory.proofs.Fold.{iter-zero, iter_turn}
+use Rattle.tables.specs.Block.{max_trains, max_choices, loaded_choice_place, held_choice_place}
+use Rattle.tables.specs.Numbers.{numbers_shape}
+use Rattle.operations.specs.Given.{numbers_given}
+use Rattle.operations.proofs.LoadTurns.{train_turn, run_at, part_is, costs_part, in_scale, choices_few}
+use Rattle.operations.proofs.load.load_choices.Goals.{In-loop-i}
 use Rattle.operations.proofs.load.load_choices.Goals as goal
 
 pub loop-i-init : goal.loop-i-init
-loop-i-init c = (omega arith, refl, sym (sum_none _), sym (iter-zero _ _))
+loop-i-init c = (sym (sum_none _), sym (iter-zero _ _))
+
+-- the train is there, and so are its costs
+known : (c : In-loop-i)
+    → (c.loop-i.i < max_trains) × (nth c.args.given.numbers.now.sizes.items c.loop-i.i ≤ max_choices)
+    × (c.loop-i.start + nth c.args.given.numbers.now.sizes.items c.loop-i.i ≤ length c.args.given.numbers.now.choices.items)
+known c =
+    let r = c.args.given.in_range in
+    let i = c.loop-i.i in
+    let sizes = c.args.given.numbers.now.sizes.items in
+    let h : i < length sizes = omega (arith, c.len-i-end.ensures.value) in
+    (omega (arith, r.trains), (r.sizes i h).1, omega (arith, r.choices, sum_part (length sizes) i (nth sizes) h))
+
+pub overflow_add-end : goal.overflow_add-end
+overflow_add-end c = rw c.deref.ensures.0 (omega (arith, known (goal.at.overflow_add-end c).In-loop-i, choices_few c.args.given.in_range))
+
+pub offset_bounds-deref-start : goal.offset_bounds-deref-start
+offset_bounds-deref-start c = omega (arith, known (goal.at.offset_bounds-deref-start c).In-loop-i, choices_few c.args.given.in_range)
+
+pub slice_bounds-load_run-end : goal.slice_bounds-load_run-end
+slice_bounds-load_run-end c =
+    let e = ap (λ (l : List ℕ). nth l c.loop-i.i) c.deref.ensures.0 in
+    let f = ap (λ (l : List ℕ). length l) c.deref-in-loop-i.ensures.0 in
+    let w = known (goal.at.slice_bounds-load_run-end c).In-loop-i in
+    omega arith
 
 pub load_run-requires : goal.load_run-requires
 load_run-requires c =
-    let i = c.loop-i.i in
-    let part = sum_part (length c.args.sizes.now) i (nth c.args.sizes.now) (omega arith) in
-    let small = c.requires.b_len.2.small i (omega arith) in record {
-      sound = (c.requires.b_len.1, c.requires.b_len.3, omega arith);
-      count_in_bounds = omega arith;
-    }
-
-pub overflow_add-start : goal.overflow_add-start
-overflow_add-start c =
-    let a = c.args in
-    omega (arith, sum_part (length a.sizes.now) c.loop-i.i (nth a.sizes.now) (omega arith))
+    let r = c.args.given.in_range in
+    let l = c.args.given.numbers.now.choices.items in
+    let start = c.loop-i.start in
+    let n = nth c.args.given.numbers.now.sizes.items c.loop-i.i in
+    let w = known (goal.at.load_run-requires c).In-loop-i in
+    let f = length-take-le n (drop start l) (omega (arith, length-drop start l)) in
+    rw (part_is start n (ap (λ (s : List ℕ). start + nth s c.loop-i.i) c.deref.ensures.0) c.deref-in-loop-i.ensures.0)
+    (in_scale r, costs_part (record { right = r.choice_costs }) n start, omega arith, omega arith)
 
 pub loop-i-preserved : goal.loop-i-preserved
 loop-i-preserved c =
-    let a = c.args in
-    let i = c.loop-i.i in (
-      omega arith,
-      search rules,
-      omega (arith, sum_more i (nth a.sizes.now)),
-      run_at a.scale.0 a.choices.now (nth a.sizes.now i) c.load_run.ensures c.loop-i.invariant.2 c.choice_place-loaded.ensures c.choice_place-held.ensures c.loop-i.invariant.3
-          ∙ sym (iter-more i (train_turn a.scale.0 (trains_shape a.sizes.now) a.choices.now) a.b.now),
+    let l = numbers_given c.args.given.numbers.now in
+    let i = c.loop-i.i in
+    let n = nth l.sizes i in
+    let e = ap (λ (s : List ℕ). c.loop-i.start + nth s i) c.deref.ensures.0 in
+    let w = known (goal.at.loop-i-preserved c).In-loop-i in (
+      omega (arith, sum_more i (nth l.sizes)),
+      iter_turn (train_turn l.scale (numbers_shape l) l.choices) c.args.b.now c.loop-i.invariant.1
+          (rw (← c.loop-i.invariant.0)
+          (run_at l.scale l.choices c.loop-i.start (loaded_choice_place i 0) (held_choice_place i 0) n c.loop-i.b w.2 (part_is c.loop-i.start n e c.deref-in-loop-i.ensures.0)
+          c.choice_place-loaded.ensures c.choice_place-held.ensures c.load_run.ensures)),
     )
-
-pub returns : goal.returns
-returns c = let e : c.loop-i.i ≡ length c.args.sizes.now = omega arith in rw e at c.loop-i.invariant.3

@@ -1,14 +1,12 @@
 use mathlib.Core.Path.{◌≡◌}
-use Prim.Native.Nat.{◌-◌, ◌≤◌}
-use lib.ListN.{length}
 use Rattle.theory.specs.Fold.{iter}
-use Rattle.tables.specs.Numbers.{list_shape}
+use Rattle.tables.specs.Numbers.{numbers_shape}
 use Rattle.tables.specs.Counts.{entries_before}
+use Rattle.operations.specs.Given.{numbers_given}
 use Rattle.operations.proofs.LoadTurns.{entries_turn}
 use Rattle.operations.proofs.load.load_entries.Given as goal
 
 abbrev pub invariant-loop-k : goal.invariant-loop-k
-invariant-loop-k l = (l.k ≤ length l.firsts) × (length l.b ≡ length l.initial.b) × (l.start ≡ entries_before (list_shape l.sizes l.firsts l.seconds) l.k) × (l.b ≡ iter l.k (entries_turn l.scale.0 (list_shape l.sizes l.firsts l.seconds) l.entries) l.initial.b)
-
-abbrev pub decreases-loop-k : goal.decreases-loop-k
-decreases-loop-k l = length l.firsts - l.k
+invariant-loop-k l =
+    (l.start ≡ entries_before (numbers_shape (numbers_given l.given.numbers.now)) l.k)
+    × (l.b ≡ iter l.k (entries_turn l.given.numbers.now.scale (numbers_shape (numbers_given l.given.numbers.now)) l.given.numbers.now.entries.items) l.initial.b)

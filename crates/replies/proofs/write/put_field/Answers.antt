@@ -5,9 +5,6 @@ use native.Mathlib.Omega.{arith}
 use Rattle.replies.proofs.Writing.{still_next, still_none}
 use Rattle.replies.proofs.write.put_field.Goals as goal
 
-pub loop-w-init : goal.loop-w-init
-loop-w-init c = record { bytes = omega arith; whole = refl; before = refl; behind = refl }
-
 pub loop-w-preserved : goal.loop-w-preserved
 loop-w-preserved c =
     still_next c.loop-w.w c.loop-w.invariant c.requires c.loop-w-test.true (search rules) c.put_byte.ensures

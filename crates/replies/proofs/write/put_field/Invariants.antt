@@ -3,6 +3,3 @@ use Rattle.replies.proofs.write.put_field.Given as goal
 
 abbrev pub invariant-loop-w : goal.invariant-loop-w
 invariant-loop-w l = Still l.initial.reply l.at l.width l.v l.reply l.rest l.w
-
-abbrev pub decreases-loop-w : goal.decreases-loop-w
-decreases-loop-w l = l.w

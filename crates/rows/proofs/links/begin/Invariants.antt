@@ -1,9 +1,7 @@
-use Prim.Native.Nat.{ℕ, ◌-◌, ◌<◌, ◌≤◌}
+-- Every pair passed so far begins before t; first trains ascend with the pairs, so all from the stop on begin at t or later.
+use Prim.Native.Nat.{ℕ, ◌<◌}
 use Rattle.tables.specs.Block.{first}
 use Rattle.rows.proofs.links.begin.Given as goal
 
 abbrev pub invariant-loop-l : goal.invariant-loop-l
-invariant-loop-l l = (l.l ≤ l.m) × ((i : ℕ) → i < l.l → first l.b i < l.t)
-
-abbrev pub decreases-loop-l : goal.decreases-loop-l
-decreases-loop-l l = l.m - l.l
+invariant-loop-l l = (i : ℕ) → i < l.l → first l.study.numbers.now i < l.t

@@ -6,9 +6,7 @@ use Rattle.saving.proofs.Together.{save_length}
 use Rattle.saving.proofs.save.saved_length.Goals as goal
 
 pub line_length-requires : goal.line_length-requires
-line_length-requires c =
-    omega (arith, choice_count_most c.requires, entry_count_most c.requires, trains_range c.requires, pairs_range c.requires, c.pairs.ensures, c.trains.ensures, c.entry_count-entries.ensures, c.choice_count-choices.ensures)
+line_length-requires c = let s = c.args.study.held in omega (arith, choice_count_most s, entry_count_most s, trains_range s, pairs_range s)
 
 pub returns : goal.returns
-returns c =
-    omega (arith, save_length c.requires, c.line_length.ensures, c.pairs.ensures, c.trains.ensures, c.entry_count-entries.ensures, c.choice_count-choices.ensures)
+returns c = omega (arith, save_length c.args.study.held)

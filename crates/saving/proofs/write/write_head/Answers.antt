@@ -8,7 +8,7 @@ use Rattle.saving.proofs.write.write_head.Goals as goal
 pub returns : goal.returns
 returns c =
     let a = c.args in
-    let kind = wrote_field wrote_none kind_width c.number.ensures c.put_field-kind_end.ensures in
+    let kind = wrote_field wrote_none kind_width c.into.ensures c.put_field-kind_end.ensures in
     let trains = wrote_field kind count_width refl c.put_field-trains_end.ensures in
-    let scale = wrote_field trains scale_width c.number-2.ensures c.put_field-scale_end.ensures in
-    wrote_as (wrote_through scale _ c.write_run.ensures) (head_fields a.scale.0 a.sizes.now)
+    let scale = wrote_field trains scale_width c.number.ensures.value c.put_field-scale_end.ensures in
+    wrote_as (wrote_through scale _ c.write_run.ensures) (head_fields a.scale a.sizes.now)

@@ -1,19 +1,31 @@
--- Every field of the answer is the walk's, and the cost is its best total by the block's scale.
+-- The table is that of the study, opening the first train with nothing tried is the whole walk, and the answer is what that comes to.
+use mathlib.Core.Path.{◌≡◌, refl, sym, ap₂, ◌∙◌}
 use native.Mathlib.Omega.{arith}
-use Rattle.tables.proofs.Study.{scale_range}
-use Rattle.search.specs.Answer.{search_answer}
-use Rattle.search.proofs.Theorems.{search_room}
+use Rattle.tables.proofs.Study.{trains_range}
+use Rattle.search.specs.Walk.{searched}
+use Rattle.search.specs.Answer.{shown, search_answer}
+use Rattle.search.specs.Held.{walk_of}
+use Rattle.search.proofs.Coded.{starts}
+use Rattle.search.proofs.Held.{held_start, started_at}
 use Rattle.search.proofs.answer.search.Goals as goal
 
-pub scale-requires : goal.scale-requires
-scale-requires c =
-    (c.requires.0.whole, (scale_range c.requires.0).0, (scale_range c.requires.0).1)
-
-pub cost_of-cost-requires : goal.cost_of-cost-requires
-cost_of-cost-requires c =
-    (record { low = omega (arith, c.scale.ensures, scale_range c.requires.0); high = omega (arith, c.scale.ensures, scale_range c.requires.0) }, rw c.walked-w.ensures (search_room c.requires.0 c.args.budget))
+pub open_train-left-requires : goal.open_train-left-requires
+open_train-left-requires c =
+    let o = c.new-walk.ensures.started in
+    record {
+      block = c.args.study.numbers.now;
+      at = started_at c.args.study.held (rw c.new-walk.ensures.table c.lay_costs.ensures) c.lay_own.ensures o.chosen c.constant.ensures;
+      going = rw o.best (record { unmet = λ h. refl; low = omega arith });
+    }
 
 pub returns : goal.returns
 unfolding search_answer
 returns c =
-    rw c.cost_of-cost.ensures (rw (c.scale.ensures, c.walked-w.ensures))
+    let s = c.args.study.held in
+    let b = c.args.study.numbers.now in
+    let o = c.new-walk.ensures.started in
+    let e = c.constant.ensures in
+    let w : walk_of c.args.budget c.open_train-left.result c.open_train-left.new.self.best ≡ searched b c.args.budget =
+    c.open_train-left.ensures.walk b c.args.budget (started_at s (rw c.new-walk.ensures.table c.lay_costs.ensures) c.lay_own.ensures o.chosen e) (rw o.best (omega arith))
+    ∙ rw (o.chosen, o.best) (sym (starts b c.args.budget s (trains_range s).0 e (held_start c.args.budget))) in
+    c.answer_of.ensures ∙ ap₂ shown c.lay_costs.ensures.s w

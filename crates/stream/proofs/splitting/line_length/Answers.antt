@@ -1,24 +1,16 @@
--- The bytes so far have no line feed, so the line's length is what was counted and the length from there on.
-use borrow.Author.Tests.{eq-eqb, ne_eqb}
-use mathlib.Core.Path.{◌≡◌}
-use native.Mathlib.Omega.{arith}
-use lib.ListN.{length}
-use Rattle.stream.proofs.Lines.{line_ends_lem, line_goes_on, none_left}
+-- The place of the first line feed, or else the part's length, is the line's length.
+use borrow.Author.Rules.{rules}
+use borrow.Author.Tests.{tests}
+use mathlib.Core.Path.{◌≡◌, ◌∙◌}
+use Rattle.std.specs.List.{position}
+use Rattle.std.proofs.lemmas.Iterator.Search.{position_from_yields_List}
+use Rattle.std.proofs.lemmas.Iterator.{YieldsList-from_slice}
+use Rattle.stream.proofs.Lines.{ends_line, first_line_feed}
 use Rattle.stream.proofs.splitting.line_length.Goals as goal
-
-pub loop-i-init : goal.loop-i-init
-loop-i-init c = (omega arith, omega arith)
-
-pub returns-then-part-i-eq-LINE_FEED : goal.returns-then-part-i-eq-LINE_FEED
-returns-then-part-i-eq-LINE_FEED c =
-    omega (arith, line_ends_lem c.args.part.now c.loop-i.i (omega arith) (eq-eqb _ _ c.if-part-i-eq-LINE_FEED.true))
-
-pub loop-i-preserved : goal.loop-i-preserved
-loop-i-preserved c =
-    (omega arith, omega (arith, line_goes_on c.args.part.now c.loop-i.i (omega arith) (ne_eqb _ _ c.if-part-i-eq-LINE_FEED.false)))
 
 pub returns : goal.returns
 returns c =
-    let part = c.args.part.now in
-    let e : c.loop-i.i ≡ length part = omega arith in
-    omega (arith, rw e at c.loop-i.invariant.1, none_left part)
+    let e : c.position.result ≡ position ends_line c.args.part.now =
+    position_from_yields_List ends_line _ _ _ c.position.ensures.ran (YieldsList-from_slice c.args.part.now cc) (λ x b q k. search (rules, tests))
+    in
+    c.unwrap_or.ensures ∙ rw e (first_line_feed c.args.part.now)

@@ -1,17 +1,21 @@
--- What the places so far give is parted, and it is 0 where all of them are mates.
-use mathlib.Core.Path.{◌≡◌, sym}
+-- What is known so far, and what the two iterators still give, is what is asked of all places.
+use Rattle.std.proofs.Common.{rules}
 use native.Mathlib.Omega.{arith}
-use Rattle.theory.proofs.Range.{all-zero, all_next}
-use Rattle.tables.proofs.Signed.{or_none}
+use mir.Syntax.{w64}
+use mir.Val.{SFits}
+use Rattle.std.proofs.lemmas.Int.{to_z-of_z}
+use Rattle.tables.proofs.Mates.{passing_start, passing_step, passing_end}
 use Rattle.tables.proofs.places.run_mated.Goals as goal
 
-pub loop-k-init : goal.loop-k-init
-loop-k-init c = (omega arith, sym (all-zero _))
+pub loop-x-init : goal.loop-x-init
+loop-x-init c = search (rules, passing_start)
 
-pub loop-k-preserved : goal.loop-k-preserved
-loop-k-preserved c =
-    let l = c.loop-k in
-    (omega arith, rw (or_none l.parted c.apart-parted.result, c.apart-parted.ensures, l.invariant.1) (sym (all_next _ l.k)))
+pub loop-x-preserved : goal.loop-x-preserved
+loop-x-preserved c =
+    let s = c.in-Some.ensures.steps in
+    let f : SFits w64 c.in-Some.x.now = search rules in
+    let g : SFits w64 c.in-Some.y.now = search rules in
+    passing_step c.loop-x.invariant s.0 s.1 (simp to_z-of_z at c.are_mates-mated.ensures)
 
 pub returns : goal.returns
-returns c = let e : c.loop-k.k ≡ c.args.count = omega arith in rw e at c.loop-k.invariant.1
+returns c = passing_end c.loop-x.invariant (omega (arith, c.in-None.ensures.steps, c.loop-x.invariant))

@@ -1,21 +1,11 @@
--- The pairs so far are right, and the first that is not ends the loop.
-use mathlib.Core.Path.{◌≡◌, sym}
-use native.Mathlib.Omega.{arith}
-use Rattle.theory.proofs.Range.{refused, passed, all-zero, all_more, all_false}
+-- Each pair is asked.
+use borrow.Author.Tests.{tests}
+use Rattle.std.proofs.Common.{rules}
+use Rattle.theory.proofs.Chains.{range_all}
 use Rattle.tables.specs.Block.{pairs}
-use Rattle.tables.specs.WellFormed.{pairs_right}
+use Rattle.tables.specs.WellFormed.{pair_right, pairs_right}
 use Rattle.tables.proofs.well_formed.pairs_right.Goals as goal
-
-pub loop-k-init : goal.loop-k-init
-loop-k-init c = (omega arith, all-zero _)
-
-pub returns-then-not-pair_right : goal.returns-then-not-pair_right
-unfolding pairs_right
-returns-then-not-pair_right c = sym (all_false _ _ c.loop-k.k (omega arith) (refused c.pair_right.ensures c.if-not-pair_right.true-raw))
-
-pub loop-k-preserved : goal.loop-k-preserved
-loop-k-preserved c = (omega arith, all_more _ _ c.loop-k.invariant.1 (passed c.pair_right.ensures c.if-not-pair_right.false-raw))
 
 pub returns : goal.returns
 unfolding pairs_right
-returns c = let e : c.loop-k.k ≡ pairs c.args.b.now = omega arith in sym (rw e at c.loop-k.invariant.1)
+returns c = let b = c.args.b.now in range_all (pair_right b) (pairs b) _ _ _ c.all.ensures.ran (cc) (λ x b q k. search (rules, tests))

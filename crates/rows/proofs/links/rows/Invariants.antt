@@ -1,0 +1,5 @@
+use Rattle.rows.specs.Table.{Linked}
+use Rattle.rows.proofs.links.rows.Given as goal
+
+abbrev pub invariant-loop-k : goal.invariant-loop-k
+invariant-loop-k l = Linked l.study.numbers.now l.k l.links

@@ -1,0 +1,16 @@
+-- Each field is laid by a function of its own.
+use native.Mathlib.Omega.{arith}
+use Rattle.tables.proofs.Study.{trains_range}
+use Rattle.rows.proofs.table.Table.new.Goals as goal
+
+pub returns : goal.returns
+returns c =
+    record {
+      n = c.trains.ensures;
+      s = c.scale.ensures;
+      bound = c.published.ensures;
+      sizes = λ t h. c.sizes.ensures t (omega (arith, trains_range c.args.study.held));
+      ends = c.rows.ensures.ends;
+      bases = c.rows.ensures.bases;
+      begins = c.begins.ensures;
+    }

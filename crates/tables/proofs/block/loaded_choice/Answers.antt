@@ -1,5 +1,0 @@
--- The place that is read is the one that `choice_place` gives.
-use Rattle.tables.proofs.block.loaded_choice.Goals as goal
-
-pub returns : goal.returns
-returns c = rw c.choice_place.ensures at c.points.ensures

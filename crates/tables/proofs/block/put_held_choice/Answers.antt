@@ -1,5 +1,0 @@
--- The place that is written is the one that `choice_place` gives.
-use Rattle.tables.proofs.block.put_held_choice.Goals as goal
-
-pub returns : goal.returns
-returns c = rw c.choice_place.ensures at c.put_parts.ensures
