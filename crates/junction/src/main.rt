@@ -80,8 +80,9 @@ fn answer_last(line: &ArrayVec<u8, KEPT>, block: &mut [i64; Block::LENGTH], repl
     requires { AfterParts line.now.items block.old }
     ensures { block.new ≡ (last_answer line.now.items block.old).block }
 {
-    let n = splitting::last_line(line, block, reply);
-    print_end(line, block, reply, n);
+    let kept = line.as_slice();
+    let n = splitting::last_line(kept, block, reply);
+    print_end(kept, block, reply, n);
 }
 
 // After a read that answered `got`: answers what came, at the end of the input the last line. It goes on unless the input has ended, or a read or a write failed.

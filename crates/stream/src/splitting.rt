@@ -51,8 +51,8 @@ fn reply_line(line: &[u8], block: &mut [i64], reply: &mut [u8; REPLY]) -> usize
 }
 
 // Answers a last line without a line end as `reply_line` does, unless it is empty.
-pub fn last_line(line: &ArrayVec<u8, KEPT>, block: &mut [i64], reply: &mut [u8; REPLY]) -> usize
-    ensures { Answers (last_answer line.now.items block.old) reply.old block.new reply.new result }
+pub fn last_line(line: &[u8], block: &mut [i64], reply: &mut [u8; REPLY]) -> usize
+    ensures { Answers (last_answer line.now block.old) reply.old block.new reply.new result }
 {
     if line.is_empty() {
         return 0;

@@ -6,5 +6,6 @@ use Rattle.junction.proofs.answer_last.Goals as goal
 
 pub print_end-requires : goal.print_end-requires
 print_end-requires c =
-    rw c.deref.ensures.0
-    (omega (arith, written_fits c.last_line-n.ensures), end_prints c.requires c.last_line-n.ensures)
+    let e = c.as_slice-kept.ensures.value in
+    let n = rw e at c.last_line-n.ensures in
+    rw e (omega (arith, written_fits n), end_prints c.requires n)

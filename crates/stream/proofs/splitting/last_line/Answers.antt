@@ -7,4 +7,4 @@ pub returns-then-is_empty : goal.returns-then-is_empty
 returns-then-is_empty c = last_none _ _ _ (search rules)
 
 pub returns : goal.returns
-returns c = last_some _ _ _ (search rules) (rw c.deref.ensures.0 at c.reply_line.ensures)
+returns c = last_some _ _ _ (search rules) c.reply_line.ensures
