@@ -2,6 +2,7 @@
 #![tactic(auto)]
 
 ghost use Rattle.std.specs.Prelude.{◌≡◌};
+ghost use Rattle.units.specs.Units.{number_of_points};
 ghost use Rattle.bounds.specs.Bounds.{bound_of};
 
 use tables::block;
@@ -11,7 +12,7 @@ use units::Points;
 // The published bound of a study.
 #[tactic(auto, using(tables::proofs::Study::scale_range, tables::proofs::Study::constant_range))]
 pub fn published(study: HeldStudy<'_>) -> Points
-    ensures { result.0 ≡ bound_of study.entry.numbers.now }
+    ensures { number_of_points result ≡ bound_of study.entry.numbers.now }
 {
     let constant = block::constant(study.numbers);
     block::scale(study.numbers).bound(constant)

@@ -2,7 +2,6 @@
 pub mod Agrees
 pub mod Rivals
 pub mod Fractions
-pub mod Ranges
 pub mod Runs
 pub mod Ceilings
 pub mod Examples

@@ -25,7 +25,7 @@ pub struct Ceiling {
 // Judges the weights' sums, then what is forbidden, and gives E and whether the ceiling is reached.
 #[tactic(auto, using(crate::proofs::Runs::judged))]
 pub fn certify(study: HeldStudy<'_>, full: u64, weights: &[u64]) -> Result<Ceiling, Refusal>
-    requires full_le_max_full_weight { full ≤ max_full_weight }
+    requires full_in_range { full ≤ max_full_weight }
     requires weights_for { WeightsFor study.numbers.now weights.now }
     ensures { result ≡ certificate study.entry.numbers.now (weights_of study.entry.numbers.now full weights.now) }
 {

@@ -8,11 +8,10 @@ use mathlib.Core.Logic.{◌⊎◌, inl, inr}
 use Prim.Native.Nat.{ℕ, ◌≤◌}
 use lib.IntN.{ℤ}
 use lib.ListN.{length}
-use Rattle.theory.specs.Range.{pass}
 use Rattle.theory.proofs.Range.{not_both, both_true}
 use Rattle.refusals.specs.Verdicts.{Verdict, Fine}
-use Rattle.tables.specs.WellFormed.{is_zero, well_formed, fresh_block, is_fresh}
-use Rattle.tables.proofs.Study.{study_well_formed}
+use Rattle.tables.specs.WellFormed.{well_formed, fresh_block}
+use Rattle.tables.proofs.Study.{study_well_formed, fresh_is_fresh, fresh_well_formed}
 use Rattle.lines.specs.declared.kind.Kind.TheVariants as kind
 use Rattle.lines.specs.declared.request.Request.{Request}
 use Rattle.lines.specs.declared.request.Request.TheVariants.{Load, Add, Shift, Tighten, Certify, Search, Save, Round, Clauses}
@@ -34,21 +33,13 @@ use Rattle.claims.proofs.Keeps.{Keeps}
 use Rattle.claims.proofs.Steps.{fed_refused, Good, line_allowed, declined-call, empty_call, good_load, clauses_answer, outcome_of, good_clauses, clauses_allowed, good_line, good_call}
 use Rattle.claims.proofs.Accepted.{empty_refused, refusal_refused}
 
-fresh_is : is_fresh fresh_block ≡ true
-unfolding is_fresh pass is_zero
-fresh_is = refl
-
-right_fresh : well_formed fresh_block ≡ true
-unfolding well_formed
-right_fresh = rw fresh_is refl
-
 -- ---- fresh, or kept together
 
 abbrev pub State : Ledger → List ℤ → Type 0
 State g b = (b ≡ fresh_block) ⊎ Keeps g b
 
 pub state_right : {g : Ledger} {b : List ℤ} → State g b → well_formed b ≡ true
-state_right (inl e) = rw e right_fresh
+state_right (inl e) = rw e fresh_well_formed
 state_right (inr k) = study_well_formed k.study
 
 -- ---- one call
@@ -79,18 +70,18 @@ module _ (g : Ledger) (l : List ℕ) where
   -- on a fresh block only what loads is asked
   new_request : (q : Request) → Makes l fresh_block q → new_kind (kind_of l) ≡ Ok (request_kind q) → Called g fresh_block l (requested q l fresh_block)
   new_request (Load q) m e = called_good (subst (λ (s : Request). Good g fresh_block l (requested s l fresh_block)) (sym m.0) (good_load g l fresh_block e m.1))
-  new_request (Add q) m e = absurd (not_both fresh_is m.2)
-  new_request (Shift q) m e = absurd (not_both fresh_is m.2)
-  new_request Tighten m e = absurd (not_both fresh_is m.2)
-  new_request (Certify q) m e = absurd (not_both fresh_is m.2)
-  new_request (Search q) m e = absurd (not_both fresh_is m.2)
-  new_request Save m e = absurd (not_both fresh_is m.2)
-  new_request Round m e = absurd (not_both fresh_is m.2)
+  new_request (Add q) m e = absurd (not_both fresh_is_fresh m.2)
+  new_request (Shift q) m e = absurd (not_both fresh_is_fresh m.2)
+  new_request Tighten m e = absurd (not_both fresh_is_fresh m.2)
+  new_request (Certify q) m e = absurd (not_both fresh_is_fresh m.2)
+  new_request (Search q) m e = absurd (not_both fresh_is_fresh m.2)
+  new_request Save m e = absurd (not_both fresh_is_fresh m.2)
+  new_request Round m e = absurd (not_both fresh_is_fresh m.2)
   new_request (Clauses q) m e = subst (λ (s : Request). Called g fresh_block l (requested s l fresh_block)) (sym m.0) (new_clauses e m.1)
 
   line_new : (room : ℕ) → longest_fixed ≤ room → Called g fresh_block l (line_answer l fresh_block room)
   line_new room h =
-      line_cases l fresh_block room h right_fresh (Called g fresh_block l)
+      line_cases l fresh_block room h fresh_well_formed (Called g fresh_block l)
       (λ r e. called_quiet _ (refusal_refused r) (declined-call g fresh_block l r (line_allowed g l fresh_block r e)))
       (λ q a f. new_request q (line_makes l fresh_block q a.asked).1 (line_known l fresh_block q a.asked))
       (λ q a f. called_quiet [] empty_refused (empty_call g fresh_block l))
@@ -99,7 +90,7 @@ module _ (g : Ledger) (l : List ℕ) where
   called_new buffer =
       answer_cases l fresh_block buffer (Called g fresh_block l)
       (λ h. called_quiet [] empty_refused (empty_call g fresh_block l))
-      (λ e. absurd (not_both right_fresh e))
+      (λ e. absurd (not_both fresh_well_formed e))
       (λ h e. line_new (length buffer) (fixed_fit buffer h))
 
 -- a line, where there is room for every fixed reply, and a call

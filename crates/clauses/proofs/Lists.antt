@@ -1,15 +1,10 @@
 -- Lists that grow by one number at their end, and lists that are mapped: what stands where.
 use mathlib.Core.Path.{◌≡◌, refl, sym, ap, ◌∙◌}
 use mathlib.Core.List.{List, [], ◌∷◌, ◌++◌, map}
-use mathlib.Core.Bool.{Bool, ◌&&◌}
 use Prim.Native.Nat.{ℕ, ◌+◌, ◌<◌}
-use native.Mathlib.Numerals.{add-one}
 use native.Mathlib.Omega.{arith}
 use lib.ListN.{length, get_or, length-append, get_or-append, get_or-map}
 use lib.Seq.{get_or-append_seam}
-use Rattle.std.specs.List.{list_all}
-use Rattle.theory.specs.Range.{all}
-use Rattle.theory.proofs.Range.{all_cong, all_head}
 use Rattle.theory.specs.Sum.{sum}
 use Rattle.theory.specs.Lists.{nth}
 use Rattle.theory.proofs.Sum.{sum_cong, sum_more}
@@ -42,15 +37,6 @@ module _ (l : List ℕ) (a : ℕ) where
 -- past the end stands 0 in both
 pub nth-map : (f : ℕ → ℕ) (l : List ℕ) (k : ℕ) → f 0 ≡ 0 → nth (map f l) k ≡ f (nth l k)
 nth-map f l k e = ap (get_or (map f l) k) (sym e) ∙ get_or-map f l k 0
-
--- ---- a test of every entry
-
-pub list_all_is : (test : ℕ → Bool) (l : List ℕ) → list_all test l ≡ all (length l) (λ k. test (nth l k))
-unfolding all
-list_all_is test [] = refl
-list_all_is test (x ∷ l) =
-    ap (λ (t : Bool). test x && t) (list_all_is test l ∙ all_cong (length l) _ _ (λ k h. ap (λ (j : ℕ). test (nth (x ∷ l) j)) (sym (add-one k))))
-    ∙ sym (all_head (λ k. test (nth (x ∷ l) k)) (length l))
 
 -- ---- a list that is mapped twice
 

@@ -30,15 +30,15 @@ module _ (cs : Clauses) where
   unfolding charged_to
   cost_more k o = sum_more k (λ j. cond (eqb (clause_cell cs j) o) (nth cs.weights j) 0)
 
-  pub charged_more : (k : ℕ) (cells : List ℕ) {o : ℕ} → Charged cs k cells → o ≡ clause_cell cs k → o < max_cells
-      → Charged cs (k + 1) (set cells o (nth cells o + nth cs.weights k))
-  charged_more k cells {o} g e h = record { whole = length-set cells o (nth cells o + nth cs.weights k) ∙ g.whole; costs = at_cell }
+  -- a weight that is added is the clause's own
+  pub charged_more : (k : ℕ) (cells : List ℕ) {o w : ℕ} → Charged cs k cells → o ≡ clause_cell cs k → w ≡ nth cs.weights k → o < max_cells → Charged cs (k + 1) (set cells o (nth cells o + w))
+  charged_more k cells {o} {w} g e f h = record { whole = length-set cells o (nth cells o + w) ∙ g.whole; costs = at_cell }
     where
-      at_cell : (p : ℕ) → p < max_cells → nth (set cells o (nth cells o + nth cs.weights k)) p ≡ charged_to cs (k + 1) p
+      at_cell : (p : ℕ) → p < max_cells → nth (set cells o (nth cells o + w)) p ≡ charged_to cs (k + 1) p
       at_cell p q =
           dite (ℕ_discrete p o)
-          (λ (d : p ≡ o). rw (d, get_or-set_same cells o (nth cells o + nth cs.weights k) 0 (omega (arith, g.whole)), cost_more k o, eq-eqb (clause_cell cs k) o (sym e)) (ap (λ (v : ℕ). v + nth cs.weights k) (g.costs o h)))
-          (λ n. rw (get_or-set_other cells o p (nth cells o + nth cs.weights k) 0 n, cost_more k p, ne_eqb (clause_cell cs k) p (λ d. n (sym d ∙ sym e))) (omega (arith, g.costs p q)))
+          (λ (d : p ≡ o). rw (d, get_or-set_same cells o (nth cells o + w) 0 (omega (arith, g.whole)), cost_more k o, eq-eqb (clause_cell cs k) o (sym e)) (omega (arith, g.costs o h, f)))
+          (λ n. rw (get_or-set_other cells o p (nth cells o + w) 0 n, cost_more k p, ne_eqb (clause_cell cs k) p (λ d. n (sym d ∙ sym e))) (omega (arith, g.costs p q)))
 
   -- no sum passes 500 × 1,000,000
   pub cost_most : {n : ℕ} → Clear n cs → (k o : ℕ) → k ≤ count cs → charged_to cs k o ≤ k * max_cost

@@ -1,11 +1,10 @@
 // Document 02, change 7: what the clauses charge, and the pairs that they name.
 ghost use Rattle.std.specs.Prelude.{◌≡◌, length};
-ghost use Rattle.tables.specs.Block.{max_trains};
 ghost use Rattle.clauses.specs.Given.{clauses_given};
-ghost use Rattle.clauses.specs.Clauses.{Clear, pair_codes};
-ghost use Rattle.clauses.specs.Charges.{Charged, Marked};
+ghost use Rattle.clauses.specs.Clauses.{max_codes, codes_below, pair_codes};
+ghost use Rattle.clauses.specs.Charges.{Charged, marked_pair};
 
-use crate::clause::Clause;
+use crate::clear_clauses::ClearClauses;
 use crate::literals;
 use crate::literals::{CELLS, CODES, ENTRIES};
 use arrayvec::ArrayVec;
@@ -14,36 +13,17 @@ use tables::block::Block;
 // The costs of all cells.
 pub type Cells = [u64; CELLS];
 
-// Adds each weight to the cell of its clause.
-pub fn charge(clauses: &[Clause]) -> Cells
-    requires { Clear max_trains (clauses_given clauses.now) }
-    ensures { Charged (clauses_given clauses.now) (length clauses.now) result }
-{
-    let mut cells = [0; CELLS];
-    for clause in clauses {
-        cells[literals::clause_cell(*clause)] += clause.weight;
-    }
-    cells
+// What clauses charge, and the codes of the pairs that they name, ascending.
+#[derive(Drop)]
+pub struct Charges {
+    pub cells: Cells,
+    pub codes: ArrayVec<usize, CODES>,
 }
 
-// Marks the code of each clause.
-fn mark(clauses: &[Clause]) -> [bool; CODES]
-    requires { Clear max_trains (clauses_given clauses.now) }
-    ensures { Marked (clauses_given clauses.now) (length clauses.now) result }
+// The marked codes of two trains, ascending.
+fn list_codes(marks: &[bool; CODES]) -> ArrayVec<usize, CODES>
+    ensures { result.items ≡ codes_below (marked_pair marks.now) max_codes }
 {
-    let mut marks = [false; CODES];
-    for clause in clauses {
-        marks[literals::clause_cell(*clause) / ENTRIES] = true;
-    }
-    marks
-}
-
-// The codes of the pairs that clauses name, ascending.
-pub fn name_pairs(clauses: &[Clause]) -> ArrayVec<usize, CODES>
-    requires { Clear max_trains (clauses_given clauses.now) }
-    ensures { result.items ≡ pair_codes (clauses_given clauses.now) }
-{
-    let marks = mark(clauses);
     let mut codes = ArrayVec::new();
     for o in 0..CODES {
         if o / Block::TRAINS < o % Block::TRAINS && marks[o] {
@@ -51,4 +31,22 @@ pub fn name_pairs(clauses: &[Clause]) -> ArrayVec<usize, CODES>
         }
     }
     codes
+}
+
+// Adds each weight to the cell of its clause, and marks the clause's code.
+pub fn charge(clauses: ClearClauses<'_>) -> Charges
+    ensures costs { Charged (clauses_given clauses.entry.items.now) (length clauses.entry.items.now) result.cells }
+    ensures pairs { result.codes.items ≡ pair_codes (clauses_given clauses.entry.items.now) }
+{
+    let mut cells = [0; CELLS];
+    let mut marks = [false; CODES];
+    for clause in clauses.items {
+        let cell = literals::clause_cell(*clause);
+        cells[cell] += clause.weight;
+        marks[cell / ENTRIES] = true;
+    }
+    Charges {
+        cells,
+        codes: list_codes(&marks),
+    }
 }

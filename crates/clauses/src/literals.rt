@@ -50,6 +50,7 @@ fn failing(literal: i64) -> usize
 }
 
 // The cell of choice a of train i with choice c of train j, where j does not come before i.
+// Trains and choices are bounded for one call: an index type would be made of each literal and read back for the one sum.
 pub fn cell_at(i: usize, a: usize, j: usize, c: usize) -> usize
     requires { (i < max_trains) × (a < clause_choices) × (j < max_trains) × (c < clause_choices) }
     ensures value { result ≡ cell_at i a j c }

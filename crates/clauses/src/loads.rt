@@ -1,14 +1,15 @@
 // Document 02, change 7: the load of the numbers that clauses stand for.
-ghost use Rattle.std.specs.Prelude.{◌≡◌, map, ℕ, ◌*◌, ◌/◌, ◌%◌, ◌<◌, ◌≤◌, length, replicate};
+ghost use Rattle.std.specs.Prelude.{◌≡◌, map, ℕ, ◌*◌, ◌/◌, ◌%◌, ◌^◌, ◌<◌, ◌≤◌, length, replicate};
 ghost use Rattle.theory.specs.Lists.{nth, list_of};
 ghost use Rattle.tables.specs.Block.{max_trains, max_pairs};
 ghost use Rattle.operations.specs.Given.{numbers_given};
 ghost use Rattle.clauses.specs.Given.{clauses_given};
-ghost use Rattle.clauses.specs.Clauses.{InLimits, clause_choices, clause_entries, max_codes, choice_cost_at, entry_cost_at, numbers_from, costs_within, sums_within};
+ghost use Rattle.clauses.specs.Clauses.{InLimits, clause_choices, clause_entries, max_codes, max_cells, choice_cost_at, entry_cost_at, numbers_from, costs_within, sums_within};
 ghost use Rattle.clauses.specs.Outcomes.{clauses_outcome, clauses_block};
 
 use crate::charges::Cells;
 use crate::clause::Clause;
+use crate::clear_clauses::ClearClauses;
 use crate::literals::{CHOICES, ENTRIES};
 use crate::{charges, literals};
 use arrayvec::ArrayVec;
@@ -27,11 +28,29 @@ fn list_sizes(n: usize) -> Sizes
     requires { n ≤ max_trains }
     ensures { result.items ≡ replicate n clause_choices }
 {
-    let mut sizes = ArrayVec::new();
-    for _ in 0..n {
-        sizes.push(SIZE);
-    }
+    let mut sizes = ArrayVec::from([SIZE; Block::TRAINS]);
+    sizes.truncate(n);
     sizes
+}
+
+// The costs of the cells of a list's entries, entry by entry. By the bound on N the list fits in memory.
+fn list_cells<const N: usize, F: Fn(usize) -> usize>(
+    cells: &Cells,
+    count: usize,
+    cell: F,
+) -> ArrayVec<u64, N>
+    requires room { count ≤ N }
+    requires fits { N < 2 ^ 32 }
+    requires calls { (o : ℕ) → o < count → F.pre cell o }
+    requires there { (o p : ℕ) → o < count → F.post cell o p → p < max_cells }
+    ensures whole { length result.items ≡ count }
+    ensures costs { (o : ℕ) → o < count → (p : ℕ) × F.post cell o p × (nth result.items o ≡ nth cells.now p) }
+{
+    let mut costs = ArrayVec::new();
+    for o in 0..count {
+        costs.push(cells[cell(o)]);
+    }
+    costs
 }
 
 // The costs of the choices of n trains, from the cells.
@@ -39,13 +58,11 @@ fn list_choices(n: usize, cells: &Cells) -> ChoiceCosts
     requires { n ≤ max_trains }
     ensures { result.items ≡ list_of (clause_choices * n) (choice_cost_at (nth cells.now)) }
 {
-    let mut choices = ArrayVec::new();
-    for o in 0..CHOICES * n {
+    list_cells(cells, CHOICES * n, |o| {
         let i = o / CHOICES;
         let a = o % CHOICES;
-        choices.push(cells[literals::cell_at(i, a, i, a)]);
-    }
-    choices
+        literals::cell_at(i, a, i, a)
+    })
 }
 
 // Each pair's two trains, from its code.
@@ -69,15 +86,13 @@ fn list_entries(cells: &Cells, codes: &[usize]) -> EntryCosts
     requires { (length codes.now ≤ max_pairs) × ((k : ℕ) → k < length codes.now → nth codes.now k < max_codes) }
     ensures { result.items ≡ list_of (clause_entries * length codes.now) (entry_cost_at (nth cells.now) codes.now) }
 {
-    let mut entries = ArrayVec::new();
-    for o in 0..ENTRIES * codes.len() {
-        let code = codes[o / ENTRIES];
-        entries.push(cells[ENTRIES * code + o % ENTRIES]);
-    }
-    entries
+    list_cells(cells, ENTRIES * codes.len(), |o| {
+        ENTRIES * codes[o / ENTRIES] + o % ENTRIES
+    })
 }
 
 // The numbers of a load of n trains, from the cells and the codes.
+// n and the codes are bounded here and in the lists above, in a clause each: a struct with its constructor would be longer than the clauses.
 fn numbers(n: usize, scale: Scale, cells: &Cells, codes: &[usize]) -> LoadNumbers
     requires { (n ≤ max_trains) × (length codes.now ≤ max_pairs) × ((k : ℕ) → k < length codes.now → nth codes.now k < max_codes) }
     ensures { numbers_given result ≡ numbers_from n scale (nth cells.now) codes.now }
@@ -112,11 +127,12 @@ pub fn load_clauses(block: &mut Places, n: usize, scale: Scale, clauses: &[Claus
     ensures value { result ≡ clauses_outcome n scale (clauses_given clauses.now) }
     ensures block_after { block.new ≡ clauses_block n scale (clauses_given clauses.now) block.old }
 {
-    let codes = charges::name_pairs(clauses);
-    if Block::PAIRS < codes.len() {
+    let clear = ClearClauses::known(clauses);
+    let charges = charges::charge(clear);
+    if Block::PAIRS < charges.codes.len() {
         return Err(Refusal::PairsAbove);
     }
-    let numbers = numbers(n, scale, &charges::charge(clauses), &codes);
+    let numbers = numbers(n, scale, &charges.cells, &charges.codes);
     if !sums_within(&numbers) {
         return Err(Refusal::CostAbove);
     }

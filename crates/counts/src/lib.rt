@@ -1,4 +1,5 @@
 // Document 01, 'Lines': how many numbers a held study asks for that go through all its trains or all its pairs.
+// That k is a pair is asked of each call: the loops count it, and a struct of study and pair would be made in each turn.
 #![tactic(auto)]
 
 ghost use Rattle.std.specs.Prelude.{◌≡◌, ◌<◌, ◌≤◌};
@@ -46,16 +47,11 @@ fn pair_moves(study: HeldStudy<'_>, k: usize) -> usize
 }
 
 // How many choices the first i trains have.
-#[tactic(auto, using(tables::proofs::Counting::counting))]
 pub fn choices_before(study: HeldStudy<'_>, i: usize) -> usize
     requires { i ≤ trains study.numbers.now }
     ensures { result ≡ choices_before (shape_of study.entry.numbers.now) i }
 {
-    let mut count = 0;
-    for j in 0..i {
-        count += block::size(study.numbers, j);
-    }
-    count
+    (0..i).map(|j| block::size(study.numbers, j)).sum()
 }
 
 // How many choices the trains have.
@@ -66,27 +62,21 @@ pub fn choice_count(study: HeldStudy<'_>) -> usize
 }
 
 // How many entries the pairs have.
-#[tactic(auto, using(tables::proofs::Counting::counting))]
 pub fn entry_count(study: HeldStudy<'_>) -> usize
     ensures { result ≡ entry_count (shape_of study.entry.numbers.now) }
 {
-    let mut count = 0;
-    for k in 0..block::pairs(study.numbers) {
-        count += pair_entries(study, k);
-    }
-    count
+    (0..block::pairs(study.numbers))
+        .map(|k| pair_entries(study, k))
+        .sum()
 }
 
 // How many moves a shift has for the pairs.
-#[tactic(auto, using(tables::proofs::Counting::counting))]
 pub fn move_count(study: HeldStudy<'_>) -> usize
     ensures { result ≡ move_count (shape_of study.entry.numbers.now) }
 {
-    let mut count = 0;
-    for k in 0..block::pairs(study.numbers) {
-        count += pair_moves(study, k);
-    }
-    count
+    (0..block::pairs(study.numbers))
+        .map(|k| pair_moves(study, k))
+        .sum()
 }
 
 // How many weights a certificate has.

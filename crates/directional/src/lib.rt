@@ -1,7 +1,9 @@
 // Document 02, change 4: the directional round.
+// What is asked of the block, of k and of x stands in clauses: each cost that moves changes the block (`rewriting::moves` says more), and the loops count k and x.
 #![tactic(auto)]
 
 ghost use Rattle.std.specs.Prelude.{◌≡◌, ◌<◌, ◌^◌};
+ghost use Rattle.units.specs.Units.{number_of_parts};
 ghost use Rattle.tables.specs.Block.{max_trains, max_choices, trains, pairs, size, second};
 ghost use Rattle.tables.specs.WellFormed.{Study};
 ghost use Rattle.rewriting.specs.Moves.{Room, ShapeInRange};
@@ -94,7 +96,7 @@ fn take_column(b: &mut Places, k: usize, x: usize)
 #[tactic(auto, unfolding(crate::specs::Directional::cost_taken))]
 fn cost_taken(b: &Places, i: usize, a: usize) -> Parts
     requires { (i < max_trains) × (a < max_choices) }
-    ensures { result.0 ≡ cost_taken b.now i a }
+    ensures { number_of_parts result ≡ cost_taken b.now i a }
 {
     if block::choice_open(b, i, a) {
         block::held_choice(b, i, a)

@@ -1,4 +1,5 @@
 // Document 01, 'Lines': numbers of one to six bytes, big-endian.
+// A width and a number are bounded for one call: a struct of both would be made of each field that is read, and taken apart at once.
 ghost use Rattle.std.specs.Prelude.{◌≡◌, ◌+◌, ◌*◌, ◌<◌, ◌≤◌, ◌^◌, nat_abs, length};
 ghost use Rattle.frames.specs.Fields.{max_width, field, signed};
 
@@ -18,6 +19,7 @@ pub fn field(line: &[u8], at: usize, width: usize) -> u64
 }
 
 // How many numbers there are of `width` bytes.
+// The library's power, named for what it counts: its caller would cast the width.
 #[tactic(auto, using(crate::proofs::Widths::power_fits))]
 pub fn numbers(width: usize) -> u64
     requires { width ≤ max_width }
@@ -41,6 +43,7 @@ pub fn signed(width: usize, v: u64) -> i64
 }
 
 // How far a number of `width` bytes is from 0, as two's complement.
+// The library's `unsigned_abs` of a signed field: two crates ask for it, of a lift or a move and of a literal, and need the distance alone.
 pub fn distance(width: usize, v: u64) -> u64
     requires { (width ≤ max_width) × (v < 256 ^ width) }
     ensures { result ≡ nat_abs (signed width v) }

@@ -19,6 +19,7 @@ impl<'a> Frame<'a> {
     pub const CHARACTERS: usize = 19834;
 
     // The frame that the line is, or why it is none: over so many characters, or empty, of an odd count or with another character.
+    // A constructor and no `TryFrom`: document 01's Forms ask for one, with the limit beside it.
     #[tactic(auto, unfolding(crate::specs::Frames::framed))]
     pub fn new(line: &'a [u8]) -> Result<Frame<'a>, Refusal>
         ensures ok { IfOk result (λ f. (f.line.now ≡ line.now) × (new_frame line.now ≡ Fine)) }

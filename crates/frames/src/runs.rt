@@ -26,6 +26,7 @@ pub fn decode<const N: usize>(
 }
 
 // The same of fields in two's complement.
+// No generic function stands for both: its trait would also say what the line must be, so that a decode of plain numbers had a clause of the line to meet.
 #[tactic(auto, using(theory::proofs::Sum::part_inside, theory::proofs::Lists::list_next, crate::proofs::Bytes::framed_whole, crate::proofs::Widths::field_below), unfolding(theory::specs::Lists::list_from))]
 pub fn decode_signed<const N: usize>(
     line: &[u8],

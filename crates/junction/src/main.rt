@@ -42,6 +42,7 @@ fn print(reply: &[u8]) -> ControlFlow<()> {
 }
 
 // Writes the first n characters of `reply`, which a step on a part prints, to standard output, and does nothing else. Part and block stand here for the contract alone.
+// The array keeps its length and a step answers a count, as there is no heap: the front is cut here, behind the clause that bounds it.
 fn print_step(part: &[u8], block: &[i64; Block::LENGTH], reply: &[u8], n: usize) -> ControlFlow<()>
     requires { (n ≤ length reply.now) × StepPrints part.now block.now (take n reply.now) }
 {
@@ -49,6 +50,7 @@ fn print_step(part: &[u8], block: &[i64; Block::LENGTH], reply: &[u8], n: usize)
 }
 
 // The same at the end of the input, where `line` is kept of the last line.
+// A function of its own: the two differ in what they ask, and one for both would take the predicate as an argument of its contract.
 fn print_end(line: &[u8], block: &[i64; Block::LENGTH], reply: &[u8], n: usize) -> ControlFlow<()>
     requires { (n ≤ length reply.now) × EndPrints line.now block.now (take n reply.now) }
 {
@@ -56,6 +58,7 @@ fn print_end(line: &[u8], block: &[i64; Block::LENGTH], reply: &[u8], n: usize) 
 }
 
 // Answers the lines that end in a part, each with one write. It goes on unless a write fails.
+// `AfterParts` is of a line and a block that both change with each step: a struct around them would be made anew after each.
 fn answer_part(
     part: &[u8],
     line: &mut ArrayVec<u8, KEPT>,
@@ -103,6 +106,7 @@ fn answer_read(
             answer_last(line, block, reply);
             ControlFlow::Break(())
         }
+        // A read fills the front of an array of fixed length, as there is no heap, and answers how many bytes.
         Some(n) => answer_part(&bytes[..n.min(INPUT)], line, block, reply),
     }
 }

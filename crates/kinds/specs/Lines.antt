@@ -16,7 +16,7 @@ use Rattle.lines.specs.declared.request.Request.TheVariants.{Add, Shift, Tighten
 use Rattle.lines.specs.declared.request.Line.{Line}
 use Rattle.lines.specs.declared.request.Line.TheVariants.{Refused}
 use Rattle.lines.specs.Kinds.{needs_study}
-use Rattle.lines.specs.Asked.{judged, line_from}
+use Rattle.lines.specs.Asked.{request_if, line_from}
 use Rattle.lines.specs.Layout.{kind_width, below, add_train_field, add_train, add_choice_field, add_choice, points_field, add_points, lift_field, move_field, full_weight_field, certify_full_weight, weight_field, budget_field, search_budget}
 use Rattle.lines.specs.Verdicts.{field_verdict, end_verdict, last_verdict, runs_verdict, field_run}
 use Rattle.kinds.specs.Load.{load_verdict, load_request}
@@ -58,7 +58,7 @@ search_request l = Search (record { budget = search_budget l })
 -- ---- by kind
 
 abbrev pub concluded : Verdict → Request → Line
-concluded v q = line_from (judged v q)
+concluded v q = line_from (request_if v q)
 
 -- the fields of each kind, judged, and the request that they make
 abbrev pub kind_verdict : Kind → List ℕ → List ℤ → Verdict
@@ -84,7 +84,7 @@ kind_request kind.Round l b = Round
 kind_request kind.Clauses l b = clauses_request l
 
 abbrev pub fields_asked : Kind → List ℕ → List ℤ → Result Request Refusal
-fields_asked k l b = judged (kind_verdict k l b) (kind_request k l b)
+fields_asked k l b = request_if (kind_verdict k l b) (kind_request k l b)
 
 abbrev pub fields_line : Kind → List ℕ → List ℤ → Line
 fields_line k l b = concluded (kind_verdict k l b) (kind_request k l b)

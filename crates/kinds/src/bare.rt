@@ -1,6 +1,6 @@
 // Document 01, '04 tighten: no fields'; document 02, 07 save and 08, a directional round.
 ghost use Rattle.std.specs.Prelude.{◌≡◌};
-ghost use Rattle.lines.specs.Asked.{judged};
+ghost use Rattle.lines.specs.Asked.{request_if};
 ghost use Rattle.kinds.specs.Lines.{bare_verdict};
 
 use frames::frame::Frame;
@@ -11,8 +11,8 @@ use refusals::Refusal;
 
 // A kind without fields.
 pub fn read_bare(frame: Frame<'_>, request: Request) -> Result<Request, Refusal>
-    ensures { result ≡ judged (bare_verdict frame.entry.line.now) request }
+    ensures { result ≡ request_if (bare_verdict frame.entry.line.now) request }
 {
-    verdict::end_verdict(frame, Kind::WIDTH)?;
+    verdict::end_verdict(frame.bytes(), Kind::WIDTH)?;
     Ok(request)
 }

@@ -1,9 +1,10 @@
 // Document 02, change 7, 'Kind 09': the fields of a study written as clauses, judged from left to right.
+// That k is a clause is asked of each call: the loops count it.
 ghost use Rattle.std.specs.Prelude.{◌≡◌, ◌≤◌, nat_abs};
 ghost use Rattle.refusals.specs.Verdicts.{Fine};
 ghost use Rattle.tables.specs.LineLimits.{max_clauses};
 ghost use Rattle.frames.specs.Digits.{bytes};
-ghost use Rattle.lines.specs.Asked.{judged};
+ghost use Rattle.lines.specs.Asked.{request_if};
 ghost use Rattle.lines.specs.Layout.{signed_in, end_of, clause_at, literal_field, clause_weight_field};
 ghost use Rattle.kinds.specs.Clauses.{clause_verdict, clause_run_verdict, clauses_verdict, clauses_request};
 
@@ -84,7 +85,7 @@ fn clause_run_verdict(frame: Frame<'_>, count: usize) -> Verdict
     for k in 0..count {
         clause_verdict(frame, k)?;
     }
-    verdict::end_verdict(frame, clause_at(count))
+    verdict::end_verdict(frame.bytes(), clause_at(count))
 }
 
 // The fields of a study written as clauses.
@@ -99,7 +100,7 @@ fn clauses_verdict(frame: Frame<'_>) -> Verdict
 
 // A study written as clauses.
 pub fn read_clauses(frame: Frame<'_>) -> Result<Request, Refusal>
-    ensures { result ≡ judged (clauses_verdict frame.entry.line.now) (clauses_request frame.entry.line.now) }
+    ensures { result ≡ request_if (clauses_verdict frame.entry.line.now) (clauses_request frame.entry.line.now) }
 {
     clauses_verdict(frame)?;
     Ok(Request::Clauses(Clauses {

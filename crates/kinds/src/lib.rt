@@ -2,7 +2,7 @@
 #![tactic(auto)]
 
 ghost use Rattle.std.specs.Prelude.{◌≡◌};
-ghost use Rattle.tables.specs.Known.{numbers_of};
+ghost use Rattle.tables.specs.Known.{block_numbers};
 ghost use Rattle.lines.specs.Asked.{line_from};
 ghost use Rattle.kinds.specs.Lines.{study_line};
 
@@ -22,14 +22,16 @@ mod shift;
 pub mod sized_load;
 
 // The fields of each kind. Some kinds need a loaded study.
-#[tactic(auto, using(tables::proofs::Study::study_not_fresh), unfolding(crate::specs::Lines::study_line))]
+#[tactic(auto, using(tables::proofs::Study::study_not_fresh, tables::proofs::Study::fresh_is_fresh), unfolding(crate::specs::Lines::study_line))]
 pub fn read_fields(frame: Frame<'_>, kind: Kind, block: Block<'_>) -> Result<Request, Refusal>
-    ensures { line_from result ≡ study_line kind frame.entry.line.now (numbers_of block.entry) }
+    ensures { line_from result ≡ study_line kind frame.entry.line.now (block_numbers block.entry) }
 {
+    if kind.needs_study() && matches!(block, Block::Fresh) {
+        return Err(Refusal::FreshBlock);
+    }
     match (kind, block) {
         (Kind::Load, _) => load::read_load(frame),
         (Kind::Clauses, _) => clause_fields::read_clauses(frame),
-        (_, Block::Fresh) => Err(Refusal::FreshBlock),
         (Kind::Add, Block::Held(study)) => add::read_add(frame, study),
         (Kind::Shift, Block::Held(study)) => shift::read_shift(frame, study),
         (Kind::Tighten, Block::Held(_)) => bare::read_bare(frame, Request::Tighten),
@@ -37,5 +39,6 @@ pub fn read_fields(frame: Frame<'_>, kind: Kind, block: Block<'_>) -> Result<Req
         (Kind::Search, Block::Held(_)) => search::read_search(frame),
         (Kind::Save, Block::Held(_)) => bare::read_bare(frame, Request::Save),
         (Kind::Round, Block::Held(_)) => bare::read_bare(frame, Request::Round),
+        (_, Block::Fresh) => unreachable!(),
     }
 }

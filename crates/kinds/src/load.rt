@@ -1,9 +1,10 @@
 // Document 01, '01 load': the fields of a load, judged from left to right.
+// The bounds of `at`, `last`, i and a count are of one call each: the loops go on from field to field, and a struct would be made at each.
 ghost use Rattle.std.specs.Prelude.{◌≡◌, Ok, ◌+◌, ◌*◌, ◌-◌, ◌<◌, ◌≤◌, ◌^◌, length};
 ghost use Rattle.refusals.specs.Verdicts.{Fine};
 ghost use Rattle.tables.specs.Block.{max_trains, max_choices, max_pairs, entries_of_pair};
 ghost use Rattle.frames.specs.Digits.{bytes};
-ghost use Rattle.lines.specs.Asked.{judged};
+ghost use Rattle.lines.specs.Asked.{request_if};
 ghost use Rattle.lines.specs.Layout.{number_in, end_of, further, cost_field, size_field, choice_field, pair_count_field, first_field, second_field, entry_field, load_trains, load_scale, load_size, choice_count, entry_count, pair_at};
 ghost use Rattle.kinds.specs.Load.{pair_ordered, pair_verdict, head_verdict, rest_verdict, costs_verdict, load_verdict, load_request};
 
@@ -198,7 +199,7 @@ fn rest_verdict(load: SizedLoad<'_>, start: usize, m: usize) -> Verdict
         last = at;
         at = pair_end(at, entry_count(load, at));
     }
-    verdict::end_verdict(load.frame, at)
+    verdict::end_verdict(load.frame.bytes(), at)
 }
 
 // The choices' costs, m, and the pairs.
@@ -250,7 +251,7 @@ fn request(frame: Frame<'_>, scale: Scale) -> Request
 
 // A load.
 pub fn read_load(frame: Frame<'_>) -> Result<Request, Refusal>
-    ensures { result ≡ judged (load_verdict frame.entry.line.now) (load_request frame.entry.line.now) }
+    ensures { result ≡ request_if (load_verdict frame.entry.line.now) (load_request frame.entry.line.now) }
 {
     load_verdict(frame)?;
     Ok(request(frame, scale(frame)?))

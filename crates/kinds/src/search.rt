@@ -1,6 +1,6 @@
 // Document 01, '06 search': the budget.
 ghost use Rattle.std.specs.Prelude.{◌≡◌};
-ghost use Rattle.lines.specs.Asked.{judged};
+ghost use Rattle.lines.specs.Asked.{request_if};
 ghost use Rattle.kinds.specs.Lines.{search_verdict, search_request};
 
 use frames::frame::Frame;
@@ -23,7 +23,7 @@ const BUDGET: Field = Field {
 // A search.
 #[tactic(auto, unfolding(crate::specs::Lines::search_verdict))]
 pub fn read_search(frame: Frame<'_>) -> Result<Request, Refusal>
-    ensures { result ≡ judged (search_verdict frame.entry.line.now) (search_request frame.entry.line.now) }
+    ensures { result ≡ request_if (search_verdict frame.entry.line.now) (search_request frame.entry.line.now) }
 {
     verdict::last_verdict(frame, BUDGET)?;
     Ok(Request::Search(Search {

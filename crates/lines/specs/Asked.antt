@@ -6,10 +6,10 @@ use Rattle.lines.specs.declared.request.Request.{Request}
 use Rattle.lines.specs.declared.request.Line.{Line}
 use Rattle.lines.specs.declared.request.Line.TheVariants.{Asked, Refused}
 
--- what the fields of a line ask, once they are judged
-abbrev pub judged : Verdict → Request → Result Request Refusal
-judged (Ok _) q = Ok q
-judged (Err r) q = Err r
+-- what the fields of a line ask: the request, if the verdict is fine
+abbrev pub request_if : Verdict → Request → Result Request Refusal
+request_if (Ok _) q = Ok q
+request_if (Err r) q = Err r
 
 abbrev pub line_from : Result Request Refusal → Line
 line_from (Ok q) = Asked q

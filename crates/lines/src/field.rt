@@ -18,6 +18,7 @@ pub enum Rule {
 }
 
 // A field of a line: the byte where it begins, how many bytes it has, what its number must be, and why the line is declined where it is not.
+// The bounds of `at` and `width` stand in clauses: they differ (2^32 at the first field of a run, 2^40 else), and the kinds write their fields out as constants.
 #[derive(Clone, Copy)]
 pub struct Field {
     pub at: usize,

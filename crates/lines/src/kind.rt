@@ -22,6 +22,7 @@ impl Kind {
     pub const WIDTH: usize = 1;
 
     // Whether a line of this kind is declined on a fresh block.
+    // A rule of document 01 in one `matches!`: no derive or method tells two kinds from seven.
     pub fn needs_study(self) -> bool
         ensures { result ≡ needs_study self }
     {

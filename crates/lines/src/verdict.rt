@@ -1,7 +1,6 @@
 // Document 01, 'What is declined', and document 02, change 5: fields from left to right, each judged as soon as it is read, and bytes left over.
 ghost use Rattle.std.specs.Prelude.{◌≡◌, ◌<◌, ◌≤◌, ◌^◌};
 ghost use Rattle.tables.specs.Numbers.{is_cost};
-ghost use Rattle.frames.specs.Digits.{bytes};
 ghost use Rattle.frames.specs.Fields.{max_width};
 ghost use Rattle.lines.specs.Layout.{below};
 ghost use Rattle.lines.specs.Verdicts.{obeys, field_verdict, run_verdict, end_verdict, runs_verdict, last_verdict};
@@ -26,6 +25,7 @@ fn obeys(rule: Rule, width: usize, v: u64) -> bool
 }
 
 // Whether a load may give v as a cost: at most the highest cost, or the mark of a forbidden entry.
+// A range and one number above it: no range of the library has both.
 #[tactic(auto, unfolding(tables::specs::Numbers::is_cost))]
 fn is_cost(v: u64) -> bool
     ensures { result ≡ is_cost v }
@@ -76,7 +76,7 @@ pub fn last_verdict(frame: Frame<'_>, f: Field) -> Verdict
     ensures { result ≡ last_verdict frame.entry.line.now f }
 {
     field_verdict(frame, f)?;
-    end_verdict(frame, f.end())
+    end_verdict(frame.bytes(), f.end())
 }
 
 // Two runs of fields, and no bytes left over.
@@ -94,14 +94,14 @@ pub fn runs_verdict(
 {
     run_verdict(frame, first, count)?;
     run_verdict(frame, second, more)?;
-    end_verdict(frame, second.further(more).at)
+    end_verdict(frame.bytes(), second.further(more).at)
 }
 
-// Whether a line ends at byte `at`.
-pub fn end_verdict(frame: Frame<'_>, at: usize) -> Verdict
-    ensures { result ≡ end_verdict (bytes frame.entry.line.now) at }
+// Whether a line of so many bytes ends at byte `at`.
+pub fn end_verdict(bytes: usize, at: usize) -> Verdict
+    ensures { result ≡ end_verdict bytes at }
 {
-    if at == frame.bytes() {
+    if at == bytes {
         Ok(())
     } else {
         Err(Refusal::Fields)

@@ -1,4 +1,5 @@
 // Document 02, change 1: the numbers of the study that a block holds, as a load gives them: what loads that study.
+// A place or a pair is bounded for one call: the loops count it, and a struct would be made in each turn.
 #![tactic(auto)]
 
 ghost use Rattle.std.specs.Prelude.{◌≡◌, ◌+◌, ◌*◌, ◌<◌, ◌≤◌, ◌++◌, length, map};
@@ -41,44 +42,36 @@ fn read_costs<const CAP: usize>(
     }
 }
 
-// The sizes of the trains.
-fn read_sizes(study: HeldStudy<'_>) -> Sizes
-    ensures { result.items ≡ list_of (trains study.entry.numbers.now) (size study.entry.numbers.now) }
+// Lists the sizes of the trains.
+fn read_sizes(study: HeldStudy<'_>, sizes: &mut Sizes)
+    ensures { sizes.new.items ≡ list_of (trains study.entry.numbers.now) (size study.entry.numbers.now) }
 {
-    let mut sizes = ArrayVec::new();
+    sizes.clear();
     for i in 0..block::trains(study.numbers) {
         sizes.push(block::size(study.numbers, i) as u64);
     }
-    sizes
 }
 
-// The costs of every train, one train after the other.
-fn read_choices(study: HeldStudy<'_>) -> ChoiceCosts
-    ensures { result.items ≡ joined (trains study.entry.numbers.now) (train_costs study.entry.numbers.now) }
+// Lists the costs of every train, one train after the other.
+fn read_choices(study: HeldStudy<'_>, choices: &mut ChoiceCosts)
+    ensures { choices.new.items ≡ joined (trains study.entry.numbers.now) (train_costs study.entry.numbers.now) }
 {
-    let mut choices = ArrayVec::new();
+    choices.clear();
     for i in 0..block::trains(study.numbers) {
         let from = block::choice_place(Block::LOADED_CHOICES_FROM, i, 0);
-        read_costs(
-            study.numbers,
-            from,
-            block::size(study.numbers, i),
-            &mut choices,
-        );
+        read_costs(study.numbers, from, block::size(study.numbers, i), choices);
     }
-    choices
 }
 
-// The trains of the pairs.
-fn read_pairs(study: HeldStudy<'_>) -> Pairs
-    ensures firsts { map (λ p. p.first) result.items ≡ list_of (pairs study.entry.numbers.now) (first study.entry.numbers.now) }
-    ensures seconds { map (λ p. p.second) result.items ≡ list_of (pairs study.entry.numbers.now) (second study.entry.numbers.now) }
+// Lists the trains of the pairs.
+fn read_pairs(study: HeldStudy<'_>, out: &mut Pairs)
+    ensures firsts { map (λ p. p.first) out.new.items ≡ list_of (pairs study.entry.numbers.now) (first study.entry.numbers.now) }
+    ensures seconds { map (λ p. p.second) out.new.items ≡ list_of (pairs study.entry.numbers.now) (second study.entry.numbers.now) }
 {
-    let mut pairs = ArrayVec::new();
+    out.clear();
     for k in 0..block::pairs(study.numbers) {
-        pairs.push(block::trains_of(study.numbers, k));
+        out.push(block::trains_of(study.numbers, k));
     }
-    pairs
 }
 
 // Adds the costs of pair k, row by row.
@@ -93,26 +86,24 @@ fn read_pair(study: HeldStudy<'_>, k: usize, entries: &mut EntryCosts)
     }
 }
 
-// The costs of every pair, one pair after the other.
-fn read_entries(study: HeldStudy<'_>) -> EntryCosts
-    ensures { result.items ≡ joined (pairs study.entry.numbers.now) (pair_costs study.entry.numbers.now) }
+// Lists the costs of every pair, one pair after the other.
+fn read_entries(study: HeldStudy<'_>, entries: &mut EntryCosts)
+    ensures { entries.new.items ≡ joined (pairs study.entry.numbers.now) (pair_costs study.entry.numbers.now) }
 {
-    let mut entries = ArrayVec::new();
+    entries.clear();
     for k in 0..block::pairs(study.numbers) {
-        read_pair(study, k, &mut entries);
+        read_pair(study, k, entries);
     }
-    entries
 }
 
-// The numbers of a held study.
+// The numbers of a held study. Its lists are filled in place, since so long a list is copied where it is returned.
 pub fn numbers(study: HeldStudy<'_>) -> LoadNumbers
     ensures { numbers_given result ≡ saved_numbers study.entry.numbers.now }
 {
-    LoadNumbers {
-        scale: block::scale(study.numbers),
-        sizes: read_sizes(study),
-        choices: read_choices(study),
-        pairs: read_pairs(study),
-        entries: read_entries(study),
-    }
+    let mut numbers = LoadNumbers::new(block::scale(study.numbers));
+    read_sizes(study, &mut numbers.sizes);
+    read_choices(study, &mut numbers.choices);
+    read_pairs(study, &mut numbers.pairs);
+    read_entries(study, &mut numbers.entries);
+    numbers
 }

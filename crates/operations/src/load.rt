@@ -1,6 +1,6 @@
 // Document 01, '01 load'.
 ghost use Rattle.std.specs.Prelude.{◌≡◌, ◌≢◌, true, ◌+◌, ◌<◌, ◌≤◌, IfSome, IfNone, length, map};
-ghost use Rattle.units.specs.Units.{Sound};
+ghost use Rattle.units.specs.Units.{number_of_points, Sound};
 ghost use Rattle.tables.specs.Block.{block_length, max_trains, max_pairs};
 ghost use Rattle.tables.specs.WellFormed.{fresh_block};
 ghost use Rattle.tables.specs.Counts.{rows_of, columns_of, pair_entries, entries_before};
@@ -47,7 +47,7 @@ fn load_pairs(b: &mut Places, pairs: &[Pair])
 
 // The points that a cost of a load stands for: none where it is the mark of a forbidden entry.
 fn points_of(cost: u64) -> Option<Points>
-    ensures some { IfSome result (λ p. (p.0 ≡ cost) × (cost ≢ forbidden_cost)) }
+    ensures some { IfSome result (λ p. (number_of_points p ≡ cost) × (cost ≢ forbidden_cost)) }
     ensures none { IfNone result (cost ≡ forbidden_cost) }
 {
     if cost == Block::FORBIDDEN {
@@ -57,6 +57,7 @@ fn points_of(cost: u64) -> Option<Points>
 }
 
 // Stores a cost: H at place p, and T at place q. That of a forbidden entry is −1 at both.
+// Counts and places are bounded for one call each: the loops below count them on.
 fn load_cost(b: &mut Places, scale: Scale, cost: u64, p: usize, q: usize)
     requires { (Sound scale) × (is_cost cost ≡ true) × (p < block_length) × (q < block_length) }
     ensures { b.new ≡ cost_loaded scale cost p q b.old }

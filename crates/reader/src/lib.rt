@@ -3,7 +3,7 @@
 
 ghost use Rattle.std.specs.Prelude.{◌≡◌};
 ghost use Rattle.lines.specs.Asked.{line_from};
-ghost use Rattle.tables.specs.Known.{numbers_of};
+ghost use Rattle.tables.specs.Known.{block_numbers};
 ghost use Rattle.reader.specs.Reading.{line_of};
 
 use frames::fields;
@@ -15,7 +15,7 @@ use tables::block::Block;
 
 // What the line asks, or why it is declined.
 pub fn read(line: &[u8], block: Block<'_>) -> Line
-    ensures { result ≡ line_of line.now (numbers_of block.entry) }
+    ensures { result ≡ line_of line.now (block_numbers block.entry) }
 {
     Line::from(request(line, block))
 }
@@ -23,7 +23,7 @@ pub fn read(line: &[u8], block: Block<'_>) -> Line
 // A line is a frame, its first byte the kind; some kinds need a loaded study; then the fields of the kind.
 #[tactic(auto, using(frames::proofs::Bytes::framed_whole), unfolding(crate::specs::Reading::line_of, crate::specs::Reading::kind_line))]
 fn request(line: &[u8], block: Block<'_>) -> Result<Request, Refusal>
-    ensures { line_from result ≡ line_of line.now (numbers_of block.entry) }
+    ensures { line_from result ≡ line_of line.now (block_numbers block.entry) }
 {
     let frame = Frame::new(line)?;
     let kind = Kind::try_from(fields::field(frame.line, 0, Kind::WIDTH))?;

@@ -22,7 +22,7 @@ const REFUSAL_BYTE: u64 = 255;
 const REPLY_KIND: u64 = 128;
 // What stands for the cost where no plan was found: six bytes FF, as the reply has it.
 const NO_COST: u64 = 281474976710655;
-// What stands for a choice where no plan was found.
+// What stands for a choice where no plan was found: a byte FF, as the reply has it. `shown_choice` makes it of the Option of a plan.
 const NO_CHOICE: u64 = 255;
 
 // Writes the reply to a declined line.
@@ -88,6 +88,7 @@ fn shown_choice(f: &Found, i: usize) -> u64
 }
 
 // Writes the choices of n trains, from character `from` on.
+// Trains and their number are bounded for one call: the loop counts them.
 fn write_plan(reply: &mut [u8], from: usize, n: usize, f: &Found) -> usize
     requires { (from + 2 * (choice_width * n) ≤ length reply.old) × (n ≤ max_trains) }
     ensures { Wrote reply.old (take from reply.old ++ plan_digits n f.now) reply.new result }
@@ -99,7 +100,7 @@ fn write_plan(reply: &mut [u8], from: usize, n: usize, f: &Found) -> usize
     at
 }
 
-// How a search ended: spent, with a plan, or without one.
+// The reply's byte for how a search ended: spent, with a plan, or without one.
 fn ending(f: &Found) -> u64
     ensures { result ≡ ending f.now }
 {

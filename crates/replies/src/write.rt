@@ -1,4 +1,5 @@
 // Document 01, 'Replies': 'digits as lines are, two characters a byte', written into a lent buffer.
+// Writers take the whole buffer and a place in it, since the caller lends it across the C interface and the next writer goes on in it.
 ghost use Rattle.std.specs.Prelude.{◌≡◌, [], ◌++◌, ◌+◌, ◌*◌, ◌<◌, ◌≤◌, map, length, take, drop};
 ghost use Rattle.frames.specs.Digits.{byte_digits};
 ghost use Rattle.frames.specs.Fields.{field_digits};
@@ -17,7 +18,7 @@ fn put_byte(reply: &mut [u8], at: usize, byte: u8)
     reply[at + 1] = digits::digit_of(byte % 16);
 }
 
-// Writes v as a field of `width` bytes, from character `at` on, and answers where the next begins. The caller lends the whole buffer, across the C interface: so a writer is told where it begins, and says where it ends.
+// Writes v as a field of `width` bytes, from character `at` on, and answers where the next begins.
 pub fn put_field(reply: &mut [u8], at: usize, width: usize, v: u64) -> usize
     requires { at + 2 * width ≤ length reply.old }
     ensures { (result ≡ at + 2 * width) × (reply.new ≡ take at reply.old ++ field_digits width v (drop (at + 2 * width) reply.old)) }

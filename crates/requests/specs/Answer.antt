@@ -3,6 +3,7 @@ use Rattle.std.specs.Prelude.{Bool, true, false, cond, List, [], ℕ, ltb, ℤ, 
 use Rattle.refusals.specs.declared.Refusal.{Refusal}
 use Rattle.refusals.specs.declared.Refusal.TheVariants.{Malformed}
 use Rattle.refusals.specs.Verdicts.{Verdict}
+use Rattle.units.specs.Units.{number_of_points}
 use Rattle.tables.specs.Block.{trains}
 use Rattle.tables.specs.WellFormed.{well_formed}
 use Rattle.operations.specs.Add.{added, add_outcome}
@@ -60,7 +61,7 @@ saved b = answered b (load_digits (saved_numbers b))
 -- what each request does, with the long fields read from the line. 'Forbidden entries stay so': where moves end, what is forbidden is `kept`
 unfoldable pub requested : Request → List ℕ → List ℤ → Answer
 requested (Load q) l b = answered (loaded_block (numbers_of l)) (bound_reply kind.Load (loaded_block (numbers_of l)))
-requested (Add q) l b = operated kind.Add (add_outcome q.train q.choice q.points.0 b) b (added q.train q.choice q.points.0 b)
+requested (Add q) l b = operated kind.Add (add_outcome q.train q.choice (number_of_points q.points) b) b (added q.train q.choice (number_of_points q.points) b)
 requested (Shift q) l b =
     let lifts = signed_run_of l q.lifts.at move_width q.lifts.count in
     let moves = signed_run_of l q.moves.at move_width q.moves.count in

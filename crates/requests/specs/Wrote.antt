@@ -1,6 +1,7 @@
 -- What a function that answers a line leaves, and what the functions for the requests ask.
 use Rattle.std.specs.Prelude.{◌≡◌, List, true, ℕ, ◌+◌, ◌*◌, ◌<◌, ◌≤◌, ℤ, length}
 use Rattle.refusals.specs.Verdicts.{Fine}
+use Rattle.units.specs.Units.{number_of_points}
 use Rattle.tables.specs.Block.{max_trains, max_choices, max_pairs, entries_of_pair, max_cost, trains, size}
 use Rattle.tables.specs.Numbers.{InRange}
 use Rattle.tables.specs.LineLimits.{max_full_weight}
@@ -54,7 +55,7 @@ pub record Adds (b : List ℤ) (q : Add) : Type 0 where
   pub study : Study b
   pub train : q.train < trains b
   pub choice : q.choice < size b q.train
-  pub points : q.points.0 ≤ max_cost
+  pub points : number_of_points q.points ≤ max_cost
 
 -- a shift whose lifts and moves stand in the line, as many as the block asks for and none of them too far from 0
 pub record Shifts (l : List ℕ) (b : List ℤ) (q : Shift) : Type 0 where

@@ -1,4 +1,6 @@
 // A line on a well-formed block: what it asks is carried out, and answered into the room that there is. A module for each kind.
+// Room for a fixed reply is asked of the lent buffer in each module but that of a save: a struct around the buffer would say of its field what `Wrote` says of it.
+// `Study` is asked of a block that is written, since a `HeldStudy` lends one to be read.
 #![tactic(auto)]
 
 mod add_line;

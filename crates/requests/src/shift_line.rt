@@ -10,6 +10,7 @@ use arrayvec::ArrayVec;
 use frames::runs;
 use lines::kind::Kind;
 use lines::request::Shift;
+use shift::amounts::Amounts;
 use tables::block::{Block, Places};
 
 // The most moves of a shift.
@@ -37,6 +38,10 @@ pub fn answer_shift(line: &[u8], block: &mut Places, reply: &mut [u8], q: Shift)
         q.moves.count,
         &mut moves,
     );
-    let outcome = shift::shift(block, lifts.as_slice(), moves.as_slice());
+    let outcome = shift::shift(
+        block,
+        Amounts::known(lifts.as_slice()),
+        Amounts::known(moves.as_slice()),
+    );
     write_outcome(reply, Kind::Shift, outcome, block)
 }

@@ -2,7 +2,7 @@
 use Rattle.std.specs.Prelude.{◌≡◌, Bool, true, false, cond, List, ◌⊎◌, ℕ, zero, suc, ◌-◌, ◌<◌, ◌≤◌, min, ltb, ℤ, pos, Option, Some, None}
 use Rattle.theory.specs.Fold.{iter}
 use Rattle.units.specs.declared.Parts.{Parts}
-use Rattle.units.specs.Units.{the_parts}
+use Rattle.units.specs.Units.{the_parts, number_of_parts}
 use Rattle.tables.specs.Block.{block_length, loaded_choices_from, held_choices_from, loaded_entries_from, held_entries_from, at, figure, size}
 use Rattle.tables.specs.WellFormed.{is_open}
 use Rattle.rewriting.specs.declared.sides.PlaceRun.{PlaceRun}
@@ -39,7 +39,7 @@ pub record NonNegative (b : List ℤ) : Type 0 where
 
 -- with one figure more, which counts where its place is open
 abbrev pub met_one : Bool → ℕ → Option Parts → Option Parts
-met_one true v (Some p) = Some (the_parts (min p.0 v))
+met_one true v (Some p) = Some (the_parts (min (number_of_parts p) v))
 met_one true v None = Some (the_parts v)
 met_one false v so = so
 
@@ -50,7 +50,7 @@ found_of (suc n) o f = met_one (o n) (f n) (found_of n o f)
 
 -- 'Least costs are taken over permitted entries; where there are none, nothing moves': 0 then
 abbrev pub figure_of : Option Parts → ℕ
-figure_of (Some p) = p.0
+figure_of (Some p) = number_of_parts p
 figure_of None = 0
 
 abbrev pub least_open : ℕ → (ℕ → Bool) → (ℕ → ℕ) → ℕ

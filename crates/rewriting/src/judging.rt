@@ -8,6 +8,7 @@ use tables::block::{Block, Places};
 use tables::well_formed;
 
 // The new number, or the old one where that is below 0.
+// It goes by the sign of the old number alone, so that neither `max` nor `min` says it.
 fn kept_number(old: i64, new: i64) -> i64
     ensures { result ≡ kept_number old new }
 {

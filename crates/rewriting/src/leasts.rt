@@ -1,5 +1,6 @@
 // The least of a run over its open places goes to where its costs go: one run, each lane of a pair, the choices of a train.
 ghost use Rattle.std.specs.Prelude.{◌≡◌, ◌<◌, ◌^◌};
+ghost use Rattle.units.specs.Units.{number_of_parts};
 ghost use Rattle.tables.specs.Block.{trains, pairs, size};
 ghost use Rattle.rewriting.specs.Moves.{RunIn, Room, ShapeInRange, lane_train};
 ghost use Rattle.rewriting.specs.Leasts.{HeldPlace, HeldRun, mate_place, NonNegative, run_least, run_tightened, lane_tightened, lanes_tightened, train_tightened};
@@ -26,7 +27,7 @@ fn mate_place(p: usize) -> usize
 #[tactic(auto, unfolding(crate::specs::Leasts::run_least, crate::specs::Leasts::open_place, crate::specs::Leasts::found_of), using(crate::proofs::Opens::mate_within))]
 fn run_least(b: &[i64], run: PlaceRun) -> Parts
     requires { (RunIn b.now run) × (HeldRun run) }
-    ensures { result.0 ≡ run_least run b.now }
+    ensures { number_of_parts result ≡ run_least run b.now }
 {
     let mut least = None;
     for i in 0..run.count {

@@ -1,5 +1,6 @@
 // Source document 000, Algorithm 1: costs go from a run of places to one place. What is asked of the block on the way stands in clauses (`ShapeInRange`, `Room`, `NonNegative`): each move changes the block and each bound differs, so that a struct around it would be
 // made anew at every call.
+// `RunIn` is of a run and the block that it is used on, whose length these functions leave open; the bounds of a pair, a lane, a train and an amount are of one call each.
 ghost use Rattle.std.specs.Prelude.{◌≡◌, ◌<◌, ◌≤◌, ◌^◌, length};
 ghost use Rattle.std.specs.Int.Signed.{mag};
 ghost use Rattle.tables.specs.Block.{trains, pairs, size};

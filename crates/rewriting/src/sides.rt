@@ -1,4 +1,5 @@
 // The runs of places that costs go from: the rows and columns of a pair's table, and the choices of a train.
+// `ShapeInRange` is asked of a block that changes between two calls (`moves` says more); the bounds of a pair, a lane and a train are of one call each.
 ghost use Rattle.std.specs.Prelude.{◌≡◌, ◌<◌};
 ghost use Rattle.tables.specs.Block.{trains, pairs, size};
 ghost use Rattle.rewriting.specs.Moves.{ShapeInRange, lane_train, lane_run, choices_run};

@@ -207,12 +207,12 @@ module _ {b : List ℤ} {l : Table} {q : List (List ℕ)} {t : ℕ} {x : List �
       (omega (arith, e, pairs_range p.study), back_low b (second b k) k _ (omega (arith, j, trains_range p.study)) (p.laid.bases k e.0))
 
   -- the costs that are added there
-  carrying_cost : (a : ℕ) → a < max_choices → cost_at l.costs k (get_or x t 0) a ≡ walled_entry b k (get_or x t 0) a
+  carrying_cost : (a : ℕ) → a < max_choices → cost_at l.costs.now k (get_or x t 0) a ≡ walled_entry b k (get_or x t 0) a
   carrying_cost a h = let e = pair_here in p.laid.rows k (get_or x t 0) a e.0 (rw e.1 (p.below t (omega arith))) h
 
   module _ {q₁ : List (List ℕ)} (u : Summed b (choices_of x) q₁ k) where
     -- the sums fit a number of 64 bits
-    pub carrying_low : (a : ℕ) → a < max_choices → sum_at q₁ (get_or l.bases k 0) a + cost_at l.costs k (get_or x t 0) a < 2 ^ 63
+    pub carrying_low : (a : ℕ) → a < max_choices → sum_at q₁ (get_or l.bases k 0) a + cost_at l.costs.now k (get_or x t 0) a < 2 ^ 63
     carrying_low a h =
         let e = pair_here in
         let g = p.laid.begins (t + 1) (omega (arith, p.train)) in
@@ -228,8 +228,8 @@ module _ {b : List ℤ} {l : Table} {q : List (List ℕ)} {t : ℕ} {x : List �
         )
 
     -- and the pair's row is summed
-    pub carrying_more : (row : List ℕ) → Sums (λ a. sum_at q₁ (get_or l.bases k 0) a + cost_at l.costs k (get_or x t 0) a) row → Summed b (choices_of x) (set q₁ (pair_row k) row) (k + 1)
+    pub carrying_more : (row : List ℕ) → Sums (λ a. sum_at q₁ (get_or l.bases k 0) a + cost_at l.costs.now k (get_or x t 0) a) row → Summed b (choices_of x) (set q₁ (pair_row k) row) (k + 1)
     carrying_more row r =
         let e = pair_here in
-        summed_more b l.costs (choices_of x) q₁ row k (get_or x t 0) (get_or l.bases k 0) (trains_range p.study).1 carrying_base.0 (second-below-trains p.study k e.0) u
+        summed_more b l.costs.now (choices_of x) q₁ row k (get_or x t 0) (get_or l.bases k 0) (trains_range p.study).1 carrying_base.0 (second-below-trains p.study k e.0) u
         (p.laid.bases k e.0) (ap (choices_of x) e.1) carrying_cost r

@@ -1,5 +1,6 @@
 -- The table of a search: what the walk reads of a study.
 use Rattle.std.specs.Prelude.{◌≡◌, List, [], ℕ, ◌+◌, ◌*◌, ◌<◌, ℤ, length, get_or, set}
+use Rattle.units.specs.Units.{number_of_points}
 use Rattle.tables.specs.Block.{max_trains, max_choices, max_pairs, trains, scale, pairs, size, first, second}
 use Rattle.bounds.specs.Bounds.{bound_of}
 use Rattle.rows.specs.declared.links.Links.{Links}
@@ -25,26 +26,16 @@ cost_at l k c a = sum_at l (cost_row k c) a
 abbrev pub begin_of : Table → ℕ → ℕ
 begin_of l t = get_or l.begins t 0
 
--- the table of the study in a block, but for its costs
-pub record Shaped (b : List ℤ) (l : Table) : Type 0 where
-  pub n : l.trains ≡ trains b
-  pub s : l.scale ≡ scale b
-  pub bound : l.bound.0 ≡ bound_of b
-  pub sizes : (t : ℕ) → t < trains b → get_or l.sizes t 0 ≡ size b t
-  pub ends : (t : ℕ) → t < trains b → Back b t (pairs b) (get_or l.ends t 0)
-  pub bases : (k : ℕ) → k < pairs b → Back b (second b k) k (get_or l.bases k 0)
-  pub begins : (t : ℕ) → t < trains b + 1 → Begin b t (begin_of l t)
-
--- and with them. A train that is opened completes its pairs, whatever their number: none of them begins at it or later
+-- the table of the study in a block. A train that is opened completes its pairs, whatever their number: none of them begins at it or later
 pub record Laid (b : List ℤ) (l : Table) : Type 0 where
   pub n : l.trains ≡ trains b
   pub s : l.scale ≡ scale b
-  pub bound : l.bound.0 ≡ bound_of b
+  pub bound : number_of_points l.bound ≡ bound_of b
   pub sizes : (t : ℕ) → t < trains b → get_or l.sizes t 0 ≡ size b t
   pub ends : (t : ℕ) → t < trains b → Back b t (pairs b) (get_or l.ends t 0)
   pub bases : (k : ℕ) → k < pairs b → Back b (second b k) k (get_or l.bases k 0)
   pub begins : (t : ℕ) → t < trains b + 1 → Begin b t (begin_of l t)
-  pub rows : (k c a : ℕ) → k < pairs b → c < size b (first b k) → a < max_choices → cost_at l.costs k c a ≡ walled_entry b k c a
+  pub rows : (k c a : ℕ) → k < pairs b → c < size b (first b k) → a < max_choices → cost_at l.costs.now k c a ≡ walled_entry b k c a
 
 -- each train's own row
 pub record Owned (b : List ℤ) (q : List (List ℕ)) : Type 0 where

@@ -1,5 +1,6 @@
 // What the choices of later trains come to so far, in rows of sums: a pair's row is the row before it of the same train, with the pair's costs.
 ghost use Rattle.std.specs.Prelude.{◌≡◌, ℕ, ◌+◌, ◌<◌, ◌^◌, get_or};
+ghost use Rattle.units.specs.Units.{number_of_parts};
 ghost use Rattle.tables.specs.Block.{max_choices};
 ghost use Rattle.rows.specs.Sums.{Carry, CarriedTo, Sums};
 ghost use Rattle.rows.specs.Links.{row_count};
@@ -36,10 +37,11 @@ pub fn lay_own(study: HeldStudy<'_>, rows: &mut Rows)
 }
 
 // Row r, with the partial total added to each sum.
+// This and `row_with` are one `from_fn` each: one function for both would take a row that repeats the partial total, or a closure that is as long as either body.
 pub fn row_from(rows: &Rows, r: usize, partial: Parts) -> ByChoice
     requires row_count_bound { r < row_count }
-    requires by_index { (a : ℕ) → a < max_choices → partial.0 + sum_at rows.now r a < 2 ^ 63 }
-    ensures { Sums (λ a. partial.0 + sum_at rows.now r a) result }
+    requires by_index { (a : ℕ) → a < max_choices → number_of_parts partial + sum_at rows.now r a < 2 ^ 63 }
+    ensures { Sums (λ a. number_of_parts partial + sum_at rows.now r a) result }
 {
     let so_far = u64::from(partial);
     array::from_fn(|a| so_far + rows[r][a])
@@ -55,15 +57,14 @@ fn row_with(row: &ByChoice, costs: &ByChoice) -> ByChoice
 
 // Carries the choice of train t to the rows of the pairs that t begins.
 #[tactic(auto, using(crate::proofs::Rows::carrying_room))]
-pub fn carry(table: &Table, rows: &mut Rows, chosen: &[u8; Block::TRAINS], t: usize)
+pub fn carry(table: &Table<'_>, rows: &mut Rows, chosen: &[u8; Block::TRAINS], t: usize)
     requires { Carry table.now rows.old t chosen.now }
     ensures { CarriedTo table.now rows.old t chosen.now rows.new }
 {
+    // A local, since a row that is lent through `table.costs` has no proof.
+    let costs = table.costs;
     let c = chosen[t] as usize;
     for k in table.begins[t]..table.begins[t + 1] {
-        rows[PAIR_ROWS_FROM + k] = row_with(
-            &rows[table.bases[k]],
-            &table.costs[Block::CHOICES * k + c],
-        );
+        rows[PAIR_ROWS_FROM + k] = row_with(&rows[table.bases[k]], &costs[Block::CHOICES * k + c]);
     }
 }

@@ -2,7 +2,7 @@
 ghost use Rattle.std.specs.Prelude.{◌≡◌, ◌+◌, ◌≤◌, ◌<◌, ℕ, get_or};
 ghost use Rattle.tables.specs.Block.{block_length, max_trains, max_choices, pairs, size};
 ghost use Rattle.rows.specs.Walled.{walled};
-ghost use Rattle.rows.specs.Table.{CostsLaid, Shaped, Laid};
+ghost use Rattle.rows.specs.Table.{CostsLaid, Laid};
 ghost use Rattle.rows.specs.Sums.{Sums};
 
 use crate::links;
@@ -15,6 +15,7 @@ use tables::{block, places};
 use units::{Points, Scale};
 
 // What a forbidden place counts: above every total, and so far below 2^64 that a wall for a choice and one for each pair fit.
+// A number and no Option: one comparison in the walk then drops a try with a forbidden entry, whether a plan is known or not, and one that is no better than the best.
 pub const WALL: u64 = 1 << 50;
 
 // The costs of the pairs: of each pair a row for each choice of its first train.
@@ -22,9 +23,9 @@ pub type Costs = [ByChoice; Block::CHOICES * Block::PAIRS];
 
 // What the walk reads of a study, each figure in a field of its own.
 #[derive(Drop)]
-pub struct Table {
-    // The costs of the pairs.
-    pub costs: Costs,
+pub struct Table<'a> {
+    // The costs of the pairs. They are lent, since so long an array is copied where a struct that holds it is returned.
+    pub costs: &'a Costs,
     // How many choices each train has.
     pub sizes: [usize; Block::TRAINS],
     // The row of sums in which each train's choices are summed when it is opened.
@@ -41,16 +42,17 @@ pub struct Table {
     pub bound: Points,
 }
 
-impl Table {
-    // The table of a study, but for its costs.
+impl<'a> Table<'a> {
+    // The table of a study whose costs are laid.
     #[tactic(auto, using(tables::proofs::Study::scale_range))]
-    pub fn new(study: HeldStudy<'_>) -> Table
-        ensures { Shaped study.entry.numbers.now result }
+    pub fn new(study: HeldStudy<'_>, costs: &'a Costs) -> Table<'a>
+        requires { CostsLaid study.numbers.now (pairs study.numbers.now) costs.now }
+        ensures { Laid study.entry.numbers.now result }
     {
         let b = study.numbers;
         let Links { ends, bases } = links::rows(study);
         Table {
-            costs: [[0; Block::CHOICES]; Block::CHOICES * Block::PAIRS],
+            costs,
             sizes: sizes(study),
             ends,
             bases,
@@ -60,19 +62,19 @@ impl Table {
             bound: bounds::published(study),
         }
     }
+}
 
-    // Lays the costs of the pairs. They are laid in place, since so long an array is copied where it is returned.
-    pub fn lay_costs(&mut self, study: HeldStudy<'_>)
-        requires { Shaped study.numbers.now self.old }
-        ensures { Laid study.entry.numbers.now self.new }
-    {
-        for k in 0..block::pairs(study.numbers) {
-            lay_pair(study, k, &mut self.costs);
-        }
+// Lays the costs of the pairs. They are laid in place, since so long an array is copied where it is returned.
+pub fn lay_costs(study: HeldStudy<'_>, costs: &mut Costs)
+    ensures { CostsLaid study.entry.numbers.now (pairs study.entry.numbers.now) costs.new }
+{
+    for k in 0..block::pairs(study.numbers) {
+        lay_pair(study, k, costs);
     }
 }
 
 // The number at place p, and the wall where it is forbidden.
+// A place or a pair is bounded for one call: the loops count it, and an index type would be made in each turn.
 fn walled(b: &Places, p: usize) -> u64
     requires { p < block_length }
     ensures { result ≡ walled b.now p }

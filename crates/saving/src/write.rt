@@ -1,4 +1,5 @@
 // Document 01, '01 load', the other way round: a load line of numbers, written into a lent buffer.
+// Writers take the whole buffer and a place in it, as those of `replies` do: the caller lends it across the C interface.
 ghost use Rattle.std.specs.Prelude.{◌≡◌, [], ◌++◌, ◌+◌, ◌*◌, ◌<◌, ◌≤◌, ◌^◌, length, take};
 ghost use Rattle.theory.specs.Lists.{nth};
 ghost use Rattle.operations.specs.Given.{numbers_given};
@@ -16,6 +17,7 @@ use tables::block::Pair;
 use units::Scale;
 
 // How many characters a load line has, by how many sizes, choice costs, pairs and pair costs.
+// A sum of widths and counts: it is asked before the line is written, so that there is nothing yet to take the length of.
 pub fn line_length(n: usize, choices: usize, m: usize, entries: usize) -> usize
     requires { (n < 2 ^ 32) × (choices < 2 ^ 32) × (m < 2 ^ 32) × (entries < 2 ^ 32) }
     ensures { result ≡ 2 * line_bytes n choices m entries }

@@ -1,6 +1,6 @@
 -- The walk as the code holds it: the tries left, the total to beat with what was left when the bound was met, and the best plan; and where it stands.
 use Rattle.std.specs.Prelude.{◌≡◌, Bool, cond, List, ℕ, ◌+◌, ◌-◌, ◌<◌, ◌≤◌, leb, ltb, eqb, ℤ, length, get_or, set}
-use Rattle.units.specs.Units.{the_parts, rounded_up}
+use Rattle.units.specs.Units.{the_parts, number_of_points, rounded_up}
 use Rattle.tables.specs.Block.{trains, size}
 use Rattle.tables.specs.WellFormed.{Study}
 use Rattle.tables.specs.Plans.{choices_of, shape_of, held_costs}
@@ -36,7 +36,7 @@ walk_of budget left best =
 
 -- whether a total meets the bound, by what stands in the table
 abbrev pub meets_by : Table → ℕ → Bool
-meets_by l total = eqb (rounded_up l.scale total) l.bound.0
+meets_by l total = eqb (rounded_up l.scale total) (number_of_points l.bound)
 
 -- a whole plan becomes the best, with `rest` left: where it meets the bound nothing is handed on, and `rest` is kept
 abbrev pub best_by : Bool → ℕ → ℕ → List ℕ → Best

@@ -4,7 +4,7 @@ use Rattle.std.specs.Prelude.{◌≡◌, Bool, true, false, cond, not, ◌&&◌,
 use Rattle.theory.specs.Sum.{sum}
 use Rattle.theory.specs.Range.{all}
 use Rattle.units.specs.declared.Parts.{Parts}
-use Rattle.units.specs.Units.{the_parts, rounded_up}
+use Rattle.units.specs.Units.{the_parts, number_of_parts, rounded_up}
 use Rattle.tables.specs.Block.{max_trains, scale}
 use Rattle.tables.specs.Plans.{choices_of, Shape, Costs, shape_of, held_costs}
 use Rattle.bounds.specs.Bounds.{bound_of}
@@ -78,7 +78,7 @@ pick_walk false f g w = g w
 
 -- 'If a best total is known and the partial total isn't below it'
 abbrev pub beaten : Walk → ℕ → Bool
-beaten w total = w.found && leb w.best.0 total
+beaten w total = w.found && leb (number_of_parts w.best) total
 
 -- 'the try is dropped'; so is 'a try that brings a forbidden entry in'
 abbrev pub dropped : Walk → Bool → ℕ → Bool

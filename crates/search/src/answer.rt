@@ -1,13 +1,13 @@
 // Document 01, 'Replies', Search: the whole search, and what it answers.
 ghost use Rattle.std.specs.Prelude.{◌≡◌, ℕ, ◌+◌, ◌≤◌, ◌<◌, ◌^◌};
-ghost use Rattle.units.specs.Units.{published};
+ghost use Rattle.units.specs.Units.{number_of_parts, published};
 ghost use Rattle.tables.specs.LineLimits.{max_budget};
 ghost use Rattle.search.specs.Held.{left_of, walk_of};
 ghost use Rattle.search.specs.Answer.{best_shown, shown, search_answer};
 
 use crate::walk::{Best, Search};
-use rows::sums;
 use rows::table::Table;
+use rows::{sums, table};
 use tables::block;
 use tables::block::Block;
 use tables::held_study::HeldStudy;
@@ -16,6 +16,7 @@ use units::{Parts, Points, Scale};
 // What a search answers: whether the walk ended or was spent, its tries, and the best plan where one was found.
 #[derive(Clone, Copy)]
 pub struct Found {
+    // A spent search shows its tries and its best plan too: an enum of how it ended would have both in each of its cases.
     pub ended: bool,
     pub count: u64,
     pub best: Option<BestPlan>,
@@ -30,8 +31,9 @@ pub struct BestPlan {
 }
 
 // A total in points, rounded up.
+// One call, yet a function: its contract says 'the published bound', and the edit that shows the parts themselves changes its one line.
 fn cost_of(s: Scale, total: Parts) -> Points
-    requires { total.0 < 2 ^ 63 }
+    requires { number_of_parts total < 2 ^ 63 }
     ensures { result ≡ published s total }
 {
     s.bound(total)
@@ -70,9 +72,11 @@ pub fn search(study: HeldStudy<'_>, budget: u64) -> Found
     requires { budget ≤ max_budget }
     ensures { result ≡ search_answer study.entry.numbers.now budget }
 {
-    let mut table = Table::new(study);
-    table.lay_costs(study);
-    let mut walk = Search::new(&table);
+    let mut costs = [[0; Block::CHOICES]; Block::CHOICES * Block::PAIRS];
+    table::lay_costs(study, &mut costs);
+    // A reference, since a walk over a local table that lends its costs has no proof.
+    let table = &Table::new(study, &costs);
+    let mut walk = Search::new(table);
     sums::lay_own(study, &mut walk.sums);
     let left = walk.open_train(0, block::constant(study.numbers), budget + 1);
     answer_of(table.scale, budget, left, &walk.best)

@@ -2,6 +2,7 @@
 //
 // `left` is handed on: one more than the tries left, and 0 once nothing more is tried, so that a try has one test for the budget and the bound.
 ghost use Rattle.std.specs.Prelude.{◌≡◌, ◌<◌, ◌^◌};
+ghost use Rattle.units.specs.Units.{number_of_parts};
 ghost use Rattle.search.specs.Held.{meets_by, best_by, handed_on, Opened, Tried, OpenedTo, TriedTo};
 ghost use Rattle.search.specs.Start.{Started};
 
@@ -16,7 +17,7 @@ use units::Parts;
 pub struct Best {
     // Its total, and while no plan is known the wall: a try compares once, and one with a forbidden entry never beats it.
     pub to_beat: u64,
-    // What was left when it met the bound, 0 before.
+    // What was left when it met the bound, 0 before: no Option, since it is added to what is left.
     pub left_then: u64,
     // Its choices.
     pub plan: [u8; Block::TRAINS],
@@ -24,13 +25,14 @@ pub struct Best {
 
 impl Best {
     // The total to beat while no plan is known.
+    // The wall and no Option, so that a try does not ask whether a plan is known: while none is, the comparison drops those with a forbidden entry and no others.
     pub const UNKNOWN: u64 = table::WALL;
 }
 
 // A walk over the plans of a study that has this table.
 #[derive(Drop)]
 pub struct Search<'a> {
-    pub table: &'a Table,
+    pub table: &'a Table<'a>,
     // What the choices of later trains come to so far.
     pub sums: Rows,
     // The choices of the trains so far.
@@ -39,16 +41,17 @@ pub struct Search<'a> {
 }
 
 // Whether a total's cost is the published bound: both in points.
-fn meets(table: &Table, total: Parts) -> bool
-    requires { total.0 < 2 ^ 63 }
-    ensures { result ≡ meets_by table.now total.0 }
+// That a total is below 2^63 is asked of each call: a limit in `Parts` itself would not be kept by its `+`.
+fn meets(table: &Table<'_>, total: Parts) -> bool
+    requires { number_of_parts total < 2 ^ 63 }
+    ensures { result ≡ meets_by table.now (number_of_parts total) }
 {
     table.scale.bound(total) == table.bound
 }
 
 impl<'a> Search<'a> {
     // Nothing is tried, and no row of sums is laid.
-    pub fn new(table: &'a Table) -> Search<'a>
+    pub fn new(table: &'a Table<'a>) -> Search<'a>
         ensures table { result.table ≡ table.entry }
         ensures started { Started result }
     {
@@ -66,9 +69,9 @@ impl<'a> Search<'a> {
 
     // The plan chosen becomes the best, with `rest` left. Where it meets the bound nothing more is tried: `rest` is kept, and 0 handed on.
     fn become_best(&mut self, total: Parts, rest: u64) -> u64
-        requires { total.0 < 2 ^ 63 }
-        ensures best { self.new ≡ record self.old { best = best_by (meets_by self.old.table.now total.0) total.0 rest self.old.chosen } }
-        ensures left { result ≡ handed_on (meets_by self.old.table.now total.0) rest }
+        requires { number_of_parts total < 2 ^ 63 }
+        ensures best { self.new ≡ record self.old { best = best_by (meets_by self.old.table.now (number_of_parts total)) (number_of_parts total) rest self.old.chosen } }
+        ensures left { result ≡ handed_on (meets_by self.old.table.now (number_of_parts total)) rest }
     {
         let (left_then, left) = if meets(self.table, total) {
             (rest, 0)
@@ -87,12 +90,14 @@ impl<'a> Search<'a> {
     #[cycle(open_train_try_choice)]
     #[tactic(auto, using(tables::proofs::Study::trains_range, tables::proofs::Study::size_range))]
     pub fn open_train(&mut self, t: usize, partial: Parts, left: u64) -> u64
-        requires { Opened self.old t partial.0 left }
-        ensures { OpenedTo self.old t partial.0 left result self.new }
+        requires { Opened self.old t (number_of_parts partial) left }
+        ensures { OpenedTo self.old t (number_of_parts partial) left result self.new }
     {
-        let row = sums::row_from(&self.sums, self.table.ends[t], partial);
+        // A local, since an index through `self.table` has no proof where the table lends its costs.
+        let table = self.table;
+        let row = sums::row_from(&self.sums, table.ends[t], partial);
         let mut rest = left;
-        for a in 0..self.table.sizes[t] {
+        for a in 0..table.sizes[t] {
             rest = self.try_choice(t, a, Parts::from(row[a]), rest);
         }
         rest
@@ -102,8 +107,8 @@ impl<'a> Search<'a> {
     #[cycle(open_train_try_choice)]
     #[tactic(auto, using(tables::proofs::Study::trains_range, tables::proofs::Study::size_range))]
     fn try_choice(&mut self, t: usize, a: usize, total: Parts, left: u64) -> u64
-        requires { Tried self.old t a total.0 left }
-        ensures { TriedTo self.old t a total.0 left result self.new }
+        requires { Tried self.old t a (number_of_parts total) left }
+        ensures { TriedTo self.old t a (number_of_parts total) left result self.new }
     {
         if left <= 1 {
             return 0;

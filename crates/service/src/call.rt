@@ -25,10 +25,11 @@ pub fn respond(line: &[u8], block: &mut [i64], reply: &mut [u8]) -> usize
 }
 
 // Answers a call, and hands back the written front of the reply buffer.
+// The part of the buffer is the result that document 01's Forms ask for.
 pub fn answer<'a>(line: &[u8], block: &mut [i64], reply: &'a mut [u8]) -> &'a mut [u8]
     ensures result_value { result.now ≡ (answer line.now block.old reply.old).reply }
     ensures block_after { block.new ≡ (answer line.now block.old reply.old).block }
-    ensures ref_ptr_value { result.ref_ptr ≡ reply.entry.ref_ptr }
+    ensures same_buffer { result.ref_ptr ≡ reply.entry.ref_ptr }
 {
     let n = respond(line, block, reply);
     &mut reply[..n]

@@ -99,12 +99,12 @@ module _ {b moves : List ℤ} (s : ShapeInRange b) (m : SmallMoves moves) where
       (shape_in_range_kept e s, room_more (2 ^ 59) (moved_room s max_parts o w) (omega (arith, s.trains)), omega (arith, same_trains e), small_word i m)
 
   -- the moves of the pairs, after the lifts
-  pub pairs_asked : (rest : List ℤ) → Room b max_parts → length rest ≡ move_count (shape_of b) → SmallMoves rest
-      → let c = lifted moves b in ShapeInRange c × Room c (2 ^ 48) × (length rest ≡ move_count (shape_of c)) × SmallMoves rest
-  pairs_asked rest o l r =
+  pub pairs_asked : (rest : List ℤ) → Room b max_parts → length rest ≡ move_count (shape_of b)
+      → let c = lifted moves b in ShapeInRange c × Room c (2 ^ 48) × (length rest ≡ move_count (shape_of c))
+  pairs_asked rest o l =
       let w = lifts_way (trains b) (omega arith) in
       let e = moved_shape s w in
-      (shape_in_range_kept e s, room_more (2 ^ 48) (moved_room s max_parts o w) (omega (arith, s.trains)), l ∙ sym (same_count e s), r)
+      (shape_in_range_kept e s, room_more (2 ^ 48) (moved_room s max_parts o w) (omega (arith, s.trains)), l ∙ sym (same_count e s))
 
   -- the move of lane x, after those of the lanes before it
   pub lane_asked : (side : Side) (start k x : ℕ) → Room b (2 ^ 53) → k < pairs b → x < size b (lane_train side b k)
@@ -125,10 +125,10 @@ module _ {b moves : List ℤ} (s : ShapeInRange b) (m : SmallMoves moves) where
     rows_way : Moved Small b (0 + size b (first b k)) (lanes_shifted Rows moves start k b)
     rows_way = lanes_way Rows start k (size b (first b k)) h (omega arith)
 
-    pub columns_asked : Room b (2 ^ 52) → let c = lanes_shifted Rows moves start k b in ShapeInRange c × Room c (2 ^ 53) × (k < pairs c) × SmallMoves moves
+    pub columns_asked : Room b (2 ^ 52) → let c = lanes_shifted Rows moves start k b in ShapeInRange c × Room c (2 ^ 53) × (k < pairs c)
     columns_asked o =
         let e = moved_shape s rows_way in
-        (shape_in_range_kept e s, room_more (2 ^ 53) (moved_room s (2 ^ 52) o rows_way) (omega (arith, lanes_most s Rows k h)), omega (arith, same_pairs e), m)
+        (shape_in_range_kept e s, room_more (2 ^ 53) (moved_room s (2 ^ 52) o rows_way) (omega (arith, lanes_most s Rows k h)), omega (arith, same_pairs e))
 
     pub columns_kept : {c : List ℤ} → c ≡ lanes_shifted Rows moves start k b → size c (second c k) ≡ size b (second b k)
     columns_kept e = rw e (same_lanes (moved_shape s rows_way) s k (omega (arith, s.pairs)) Columns)
@@ -136,11 +136,11 @@ module _ {b moves : List ℤ} (s : ShapeInRange b) (m : SmallMoves moves) where
   -- pair k, after the pairs before it
   module _ (k : ℕ) (h : k < pairs b) where
     pub pair_asked : Room b (2 ^ 48)
-        → let c = iter k (λ l. pair_shifted moves (moves_before (shape_of b) l) l) b in ShapeInRange c × Room c (2 ^ 52) × (k < pairs c) × SmallMoves moves
+        → let c = iter k (λ l. pair_shifted moves (moves_before (shape_of b) l) l) b in ShapeInRange c × Room c (2 ^ 52) × (k < pairs c)
     pair_asked o =
         let w = pairs_way k (omega arith) in
         let e = moved_shape s w in
-        (shape_in_range_kept e s, room_more (2 ^ 52) (moved_room s (2 ^ 48) o w) (omega (arith, s.pairs)), omega (arith, same_pairs e), m)
+        (shape_in_range_kept e s, room_more (2 ^ 52) (moved_room s (2 ^ 48) o w) (omega (arith, s.pairs)), omega (arith, same_pairs e))
 
     pub pair_kept : {c : List ℤ} → c ≡ iter k (λ l. pair_shifted moves (moves_before (shape_of b) l) l) b → pair_moves (shape_of c) k ≡ pair_moves (shape_of b) k
     pair_kept q =

@@ -24,6 +24,7 @@ pub struct Step {
 }
 
 // How many bytes stand before the first line feed; all, where there is none.
+// The library's `position`, and the whole part where it finds none, under the name that the definition of a step has for it.
 fn line_length(part: &[u8]) -> usize
     ensures { result ≡ line_length part.now }
 {
@@ -33,6 +34,7 @@ fn line_length(part: &[u8]) -> usize
 }
 
 // Puts the bytes of a part behind a line, as far as there is room.
+// What fits is one front of the part, copied at once; an iterator would put it there byte by byte.
 #[tactic(auto, using(crate::proofs::Steps::room_filled))]
 fn keep(part: &[u8], line: &mut ArrayVec<u8, KEPT>)
     ensures { line.new.items ≡ lengthened line.old.items (length part.now) part.now }
@@ -61,6 +63,7 @@ pub fn last_line(line: &[u8], block: &mut [i64], reply: &mut [u8; REPLY]) -> usi
 }
 
 // Takes a part to its first line feed, or to its end, behind what is kept of a line.
+// The count n is answered too, so that the front is cut here and not in `line_length`.
 pub fn next_line(
     part: &[u8],
     line: &mut ArrayVec<u8, KEPT>,

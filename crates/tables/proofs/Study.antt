@@ -19,7 +19,7 @@ use Rattle.tables.specs.declared.block.Block.{Block}
 use Rattle.tables.specs.declared.block.Block.TheVariants.{Fresh, Held}
 use Rattle.tables.specs.declared.held_study.HeldStudy.{HeldStudy}
 use Rattle.tables.specs.declared.place_limits.Limits.{Limits}
-use Rattle.tables.specs.Known.{numbers_of, fresh_of}
+use Rattle.tables.specs.Known.{block_numbers, fresh_of}
 use Rattle.tables.specs.Block.{block_length, max_trains, max_choices, max_pairs, max_cost, max_parts, trains_place, constant_place, size_place, first_place, second_place, entries_of_pair, loaded_choices_from, held_choices_from, loaded_entries_from, held_entries_from, loaded_choice_place, held_choice_place, loaded_entry_place, held_entry_place, at, nat, figure, trains, scale, pairs, constant, size, first, second, held_choice, held_entry}
 use Rattle.tables.specs.WellFormed.{from_to, cost_to, within, is_open, mated, used_if, choice_used, entry_used, head_limits, limits_at, places_right, before, follows, pair_right, pairs_right, fresh_block, is_zero, is_fresh, holds_study, well_formed, Study}
 use Rattle.tables.proofs.Mates.{mated-mates, mates-mated, mate_open, mate_same}
@@ -438,12 +438,12 @@ put_study {b} s p v h w o low high =
 pub held_not_fresh : (s : HeldStudy) → is_fresh s.numbers.now ≡ false
 held_not_fresh s = study_not_fresh s.held
 
-pub block_well_formed : (k : Block) → well_formed (numbers_of k) ≡ true
+pub block_well_formed : (k : Block) → well_formed (block_numbers k) ≡ true
 block_well_formed Fresh = fresh_well_formed
 block_well_formed (Held s) = study_well_formed s.held
 
 -- what the constructor of a block says: the numbers are well formed, and the block keeps whether they are fresh; or they are not
-pub new_block_within : (b : List ℤ) (k : Block) → numbers_of k ≡ b → (well_formed b ≡ true) × (fresh_of k ≡ is_fresh b)
+pub new_block_within : (b : List ℤ) (k : Block) → block_numbers k ≡ b → (well_formed b ≡ true) × (fresh_of k ≡ is_fresh b)
 new_block_within b Fresh e = rw (← e) (fresh_well_formed, sym fresh_is_fresh)
 new_block_within b (Held s) e = rw (← e) (study_well_formed s.held, sym (held_not_fresh s))
 

@@ -4,9 +4,9 @@ use Rattle.tables.specs.declared.block.Block.{Block}
 use Rattle.tables.specs.declared.block.Block.TheVariants.{Fresh, Held}
 use Rattle.tables.specs.WellFormed.{fresh_block}
 
-abbrev pub numbers_of : Block → List ℤ
-numbers_of Fresh = fresh_block
-numbers_of (Held s) = s.numbers.now
+abbrev pub block_numbers : Block → List ℤ
+block_numbers Fresh = fresh_block
+block_numbers (Held s) = s.numbers.now
 
 -- whether it is fresh
 abbrev pub fresh_of : Block → Bool

@@ -1,6 +1,7 @@
 // Document 01, 'State block': where everything stands in the block, its readers and its writers.
+// The bounds of i, k, a, a place and a stored number are each of one argument of one call: an index type would be made in each turn of a caller's loop, and read back for each place.
 ghost use Rattle.std.specs.Prelude.{◌≡◌, ◌+◌, ◌*◌, ◌<◌, ◌≤◌, ◌^◌, pos, length, set};
-ghost use Rattle.units.specs.Units.{scale_min, scale_max};
+ghost use Rattle.units.specs.Units.{number_of_points, number_of_parts, scale_min, scale_max};
 ghost use Rattle.tables.specs.Block.{block_length, entries_of_pair, max_trains, max_choices, max_pairs, trains_place, scale_place, pairs_place, size_place, first_place, second_place, choice_place, entry_place, at, figure, loaded_choice_place, held_choice_place, trains, scale, pairs, constant, size, first, second, loaded_choice, held_choice, loaded_entry, held_entry};
 ghost use Rattle.tables.specs.WellFormed.{is_open};
 
@@ -108,7 +109,7 @@ pub fn pairs(b: &Places) -> usize
 
 // c0.
 pub fn constant(b: &Places) -> Parts
-    ensures { result.0 ≡ constant b.now }
+    ensures { number_of_parts result ≡ constant b.now }
 {
     Parts::from(places::get(b, Block::CONSTANT_PLACE))
 }
@@ -160,7 +161,7 @@ pub fn choice_open(b: &Places, i: usize, a: usize) -> bool
 // H of choice a of train i.
 pub fn loaded_choice(b: &Places, i: usize, a: usize) -> Points
     requires { (i < max_trains) × (a < max_choices) }
-    ensures { result.0 ≡ loaded_choice b.now i a }
+    ensures { number_of_points result ≡ loaded_choice b.now i a }
 {
     Points::from(places::get(b, choice_place(Block::LOADED_CHOICES_FROM, i, a)))
 }
@@ -168,7 +169,7 @@ pub fn loaded_choice(b: &Places, i: usize, a: usize) -> Points
 // T of choice a of train i.
 pub fn held_choice(b: &Places, i: usize, a: usize) -> Parts
     requires { (i < max_trains) × (a < max_choices) }
-    ensures { result.0 ≡ held_choice b.now i a }
+    ensures { number_of_parts result ≡ held_choice b.now i a }
 {
     Parts::from(places::get(b, choice_place(Block::HELD_CHOICES_FROM, i, a)))
 }
@@ -176,12 +177,12 @@ pub fn held_choice(b: &Places, i: usize, a: usize) -> Parts
 // H of the choices a and c of pair k.
 pub fn loaded_entry(b: &Places, k: usize, a: usize, c: usize) -> Points
     requires { (k < max_pairs) × (a < max_choices) × (c < max_choices) }
-    ensures { result.0 ≡ loaded_entry b.now k a c }
+    ensures { number_of_points result ≡ loaded_entry b.now k a c }
 {
     Points::from(places::get(b, entry_place(Block::LOADED_ENTRIES_FROM, k, a, c)))
 }
 
-// ---- writers
+// ---- writers: each is the name of a place likewise, over `places::put`
 
 // Stores n.
 pub fn put_trains(b: &mut Places, n: usize)
@@ -232,16 +233,16 @@ pub fn put_second(b: &mut Places, k: usize, j: usize)
 
 // Stores H of choice a of train i.
 pub fn put_loaded_choice(b: &mut Places, i: usize, a: usize, v: Points)
-    requires { (i < max_trains) × (a < max_choices) × (v.0 < 2 ^ 63) }
-    ensures { b.new ≡ set b.old (loaded_choice_place i a) (pos v.0) }
+    requires { (i < max_trains) × (a < max_choices) × (number_of_points v < 2 ^ 63) }
+    ensures { b.new ≡ set b.old (loaded_choice_place i a) (pos (number_of_points v)) }
 {
     places::put(b, choice_place(Block::LOADED_CHOICES_FROM, i, a), v.into());
 }
 
 // Stores T of choice a of train i.
 pub fn put_held_choice(b: &mut Places, i: usize, a: usize, v: Parts)
-    requires { (i < max_trains) × (a < max_choices) × (v.0 < 2 ^ 63) }
-    ensures { b.new ≡ set b.old (held_choice_place i a) (pos v.0) }
+    requires { (i < max_trains) × (a < max_choices) × (number_of_parts v < 2 ^ 63) }
+    ensures { b.new ≡ set b.old (held_choice_place i a) (pos (number_of_parts v)) }
 {
     places::put(b, choice_place(Block::HELD_CHOICES_FROM, i, a), v.into());
 }

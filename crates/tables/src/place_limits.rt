@@ -7,6 +7,7 @@ ghost use Rattle.tables.specs.WellFormed.{from_to, cost_to, within};
 pub struct Limits {
     pub low: u64,
     pub high: u64,
+    // Whether −1 is allowed too. The range holds in either case, so that an Option would lose it; an enum would repeat the upper bound in both of its cases.
     pub closable: bool,
 }
 

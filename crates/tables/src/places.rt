@@ -1,4 +1,5 @@
 // Places of a lent block. The block is signed: −1 is a forbidden entry, and above these functions all other numbers are natural. They take the block and a place, not a part of it: the definitions speak of places of the block.
+// That p is a place is asked of each call's own p: the callers' loops count it, and a type of places would be made in each turn.
 ghost use Rattle.std.specs.Prelude.{◌≡◌, ◌+◌, ◌<◌, ◌≤◌, ◌^◌, pos, negsuc, length, set};
 ghost use Rattle.tables.specs.Block.{at, figure};
 ghost use Rattle.tables.specs.WellFormed.{from_to, is_open, mate};
@@ -46,6 +47,7 @@ fn open(z: i64) -> bool
 }
 
 // Whether two numbers are both below 0, or neither is.
+// Two tests compared: no method of the library says it of two numbers (`signum` tells 0 from a number above it).
 #[tactic(auto, unfolding(crate::specs::WellFormed::mate))]
 fn are_mates(x: i64, y: i64) -> bool
     ensures { result ≡ mate x y }

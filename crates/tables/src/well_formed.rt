@@ -3,7 +3,7 @@ ghost use Rattle.std.specs.Prelude.{◌≡◌, ◌↔◌, true, ◌+◌, ◌*◌
 ghost use Rattle.tables.specs.Block.{block_length, max_trains, max_choices, max_pairs, entries_of_pair, pairs};
 ghost use Rattle.tables.specs.WellFormed.{cost_to, places_right, mated, follows, pair_right, pairs_right, is_fresh, holds_study, well_formed};
 ghost use Rattle.tables.specs.Rows.{run_within, row_within, head_right, shape_right, choices_used, choices_within, entries_used, pair_within, entries_within};
-ghost use Rattle.tables.specs.Known.{numbers_of};
+ghost use Rattle.tables.specs.Known.{block_numbers};
 
 use crate::block::{Block, Places};
 use crate::held_study::HeldStudy;
@@ -11,12 +11,20 @@ use crate::place_limits::Limits;
 use crate::{block, places};
 use units::Scale;
 
+// Numbers whose n, s, m, c0, sizes and pairs' trains are within their limits. It stands for that fact in the signatures of the tests of tables.
+#[derive(Clone, Copy)]
+struct ShapedPlaces<'a> {
+    numbers: &'a Places,
+    ghost shaped: { shape_right numbers.now ≡ true },
+}
+
 impl<'a> Block<'a> {
     // The block that these numbers are, where they are well formed.
+    // A constructor and no `TryFrom`: document 01's Forms ask for one, beside the limits.
     #[tactic(auto, using(crate::proofs::Study::new_block))]
     pub fn new(numbers: &'a [i64]) -> Option<Block<'a>>
         ensures variant { IsSome result ↔ (well_formed numbers.now ≡ true) }
-        ensures numbers { IfSome result (λ b. numbers_of b ≡ numbers.now) }
+        ensures numbers { IfSome result (λ b. block_numbers b ≡ numbers.now) }
     {
         let numbers = numbers.as_array()?;
         if is_fresh(numbers) {
@@ -42,14 +50,17 @@ fn is_fresh(b: &Places) -> bool
 pub fn holds_study(b: &Places) -> bool
     ensures { result ≡ holds_study b.now }
 {
-    let costs = Limits::cost_to(Block::COST.into());
-    let parts = Limits::cost_to(Block::PARTS.into());
-    shape_right(b)
-        && pairs_right(b)
-        && choices_within(b, Block::LOADED_CHOICES_FROM, costs)
-        && choices_within(b, Block::HELD_CHOICES_FROM, parts)
-        && entries_within(b, Block::LOADED_ENTRIES_FROM, costs)
-        && entries_within(b, Block::HELD_ENTRIES_FROM, parts)
+    let costs = Block::COST.into();
+    let parts = Block::PARTS.into();
+    if !shape_right(b) {
+        return false;
+    }
+    let shaped = ShapedPlaces { numbers: b };
+    pairs_right(b)
+        && choices_within(shaped, Block::LOADED_CHOICES_FROM, costs)
+        && choices_within(shaped, Block::HELD_CHOICES_FROM, parts)
+        && entries_within(shaped, Block::LOADED_ENTRIES_FROM, costs)
+        && entries_within(shaped, Block::HELD_ENTRIES_FROM, parts)
         && mated(b)
 }
 
@@ -75,6 +86,7 @@ fn mated(b: &Places) -> bool
 }
 
 // Whether `count` places from `from` on are within the limits.
+// Here and below the bounds of `from`, a count, i and k are of one call each: the loops count them, and a struct would be made in each turn.
 fn run_within(b: &Places, from: usize, count: usize, limits: Limits) -> bool
     requires { from + count ≤ block_length }
     ensures { result ≡ run_within b.now from count limits }
@@ -158,54 +170,57 @@ fn choices_used(b: &Places, i: usize) -> usize
     }
 }
 
-// Whether the table of choices that begins at `from` is within the limits, and 0 where it is unused.
+// Whether the table of choices that begins at `from` has costs up to `high`, and 0 where it is unused. The limits are made at each row, so that the least is a constant where the places are compared.
 #[tactic(auto, using(crate::proofs::Rows::row_calls))]
-fn choices_within(b: &Places, from: usize, limits: Limits) -> bool
-    requires { (from + max_trains * max_choices ≤ block_length) × (shape_right b.now ≡ true) }
-    ensures { result ≡ choices_within b.now from limits }
+fn choices_within(b: ShapedPlaces<'_>, from: usize, high: u64) -> bool
+    requires { from + max_trains * max_choices ≤ block_length }
+    ensures { result ≡ choices_within b.entry.numbers.now from (cost_to high) }
 {
     (0..Block::TRAINS).all(|i| {
         let row = from + Block::CHOICES * i;
-        row_within(b, row, Block::CHOICES, choices_used(b, i), limits)
+        let used = choices_used(b.numbers, i);
+        row_within(b.numbers, row, Block::CHOICES, used, Limits::cost_to(high))
     })
 }
 
 // How many entries of row a of pair k are used: none where there is no such row or pair.
 #[tactic(auto, using(crate::proofs::Rows::pair_trains))]
-fn entries_used(b: &Places, k: usize, a: usize) -> usize
-    requires { (k < max_pairs) × (shape_right b.now ≡ true) }
-    ensures { result ≡ entries_used b.now k a }
+fn entries_used(b: ShapedPlaces<'_>, k: usize, a: usize) -> usize
+    requires { k < max_pairs }
+    ensures { result ≡ entries_used b.entry.numbers.now k a }
 {
-    if k >= block::pairs(b) {
+    if k >= block::pairs(b.numbers) {
         return 0;
     }
-    let pair = block::trains_of(b, k);
-    if a < block::size(b, pair.first) {
-        block::size(b, pair.second)
+    let pair = block::trains_of(b.numbers, k);
+    if a < block::size(b.numbers, pair.first) {
+        block::size(b.numbers, pair.second)
     } else {
         0
     }
 }
 
-// Whether the places of pair k in the table that begins at `from` are within the limits, and 0 where they are unused.
+// Whether the places of pair k in the table that begins at `from` hold costs up to `high`, and 0 where they are unused.
 #[tactic(auto, using(crate::proofs::Rows::pair_absent, crate::proofs::Rows::row_calls))]
-fn pair_within(b: &Places, from: usize, k: usize, limits: Limits) -> bool
-    requires { (from + max_pairs * entries_of_pair ≤ block_length) × (k < max_pairs) × (shape_right b.now ≡ true) }
-    ensures { result ≡ pair_within b.now from k limits }
+fn pair_within(b: ShapedPlaces<'_>, from: usize, k: usize, high: u64) -> bool
+    requires { (from + max_pairs * entries_of_pair ≤ block_length) × (k < max_pairs) }
+    ensures { result ≡ pair_within b.entry.numbers.now from k (cost_to high) }
 {
-    if k >= block::pairs(b) {
-        return places::all_zero(b, from + Block::ENTRIES * k, Block::ENTRIES);
+    let numbers = b.numbers;
+    if k >= block::pairs(numbers) {
+        return places::all_zero(numbers, from + Block::ENTRIES * k, Block::ENTRIES);
     }
     (0..Block::CHOICES).all(|a| {
         let row = from + (Block::ENTRIES * k + Block::CHOICES * a);
-        row_within(b, row, Block::CHOICES, entries_used(b, k, a), limits)
+        let used = entries_used(b, k, a);
+        row_within(numbers, row, Block::CHOICES, used, Limits::cost_to(high))
     })
 }
 
-// Whether the table of pairs that begins at `from` is within the limits, and 0 where it is unused.
-fn entries_within(b: &Places, from: usize, limits: Limits) -> bool
-    requires { (from + max_pairs * entries_of_pair ≤ block_length) × (shape_right b.now ≡ true) }
-    ensures { result ≡ entries_within b.now from limits }
+// Whether the table of pairs that begins at `from` has costs up to `high`, and 0 where it is unused.
+fn entries_within(b: ShapedPlaces<'_>, from: usize, high: u64) -> bool
+    requires { from + max_pairs * entries_of_pair ≤ block_length }
+    ensures { result ≡ entries_within b.entry.numbers.now from (cost_to high) }
 {
-    (0..Block::PAIRS).all(|k| pair_within(b, from, k, limits))
+    (0..Block::PAIRS).all(|k| pair_within(b, from, k, high))
 }

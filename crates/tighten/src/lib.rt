@@ -1,4 +1,5 @@
 // Document 01, '04 tighten'.
+// What is asked of the block and of k stands in clauses: each least that moves changes the block (`rewriting::moves` says more), and the loops count k.
 #![tactic(auto)]
 
 ghost use Rattle.std.specs.Prelude.{◌≡◌, ◌<◌, ◌^◌};

@@ -9,6 +9,13 @@ the_points n = record { 0 = n }
 abbrev pub the_parts : ℕ → Parts
 the_parts n = record { 0 = n }
 
+-- how many points or parts a figure is
+abbrev pub number_of_points : Points → ℕ
+number_of_points p = p.0
+
+abbrev pub number_of_parts : Parts → ℕ
+number_of_parts p = p.0
+
 -- 'The scale of a problem carries its own limits, 1 and 1000'
 abbrev pub scale_min : ℕ
 scale_min = 1

@@ -114,6 +114,7 @@ impl Scale {
     pub const MAX: u64 = 1000;
 
     // The scale of s parts a point, where s is within the limits.
+    // A constructor and no `TryFrom`: document 01's Forms ask for one, beside the limits.
     pub fn new(s: u64) -> Option<Scale>
         ensures { result ≡ new_scale s }
     {
@@ -133,6 +134,7 @@ impl Scale {
     }
 
     // How many parts make one point.
+    // A method and no `From`, which has one clause: the proof of a saved line cites `value`, and a place of the block needs `sound`.
     pub fn number(self) -> u64
         ensures value { result ≡ self }
         ensures sound { Sound self }

@@ -14,7 +14,7 @@ use Rattle.numbers.proofs.Saved.{train_list, train_costs_length}
 use Rattle.numbers.proofs.read_choices.Goals as goal
 
 pub loop-i-init : goal.loop-i-init
-loop-i-init c = c.new-choices.ensures ∙ sym (joined_none _)
+loop-i-init c = c.clear.ensures ∙ sym (joined_none _)
 
 pub choice_place-from-requires : goal.choice_place-from-requires
 choice_place-from-requires c = omega (arith, trains_range c.args.study.held, c.trains-i-end.ensures)

@@ -15,7 +15,7 @@ use Rattle.numbers.proofs.Saved.{pair_costs_length}
 use Rattle.numbers.proofs.read_entries.Goals as goal
 
 pub loop-k-init : goal.loop-k-init
-loop-k-init c = c.new-entries.ensures ∙ sym (joined_none _)
+loop-k-init c = c.clear.ensures ∙ sym (joined_none _)
 
 pub read_pair-requires : goal.read_pair-requires
 read_pair-requires c =

@@ -6,5 +6,5 @@ use Rattle.numbers.proofs.read_pairs.Given as goal
 
 abbrev pub invariant-loop-k : goal.invariant-loop-k
 invariant-loop-k l =
-    (map (λ p. p.first) l.pairs.items ≡ list_of l.k (first l.study.numbers.now))
-    × (map (λ p. p.second) l.pairs.items ≡ list_of l.k (second l.study.numbers.now))
+    (map (λ p. p.first) l.out.items ≡ list_of l.k (first l.study.numbers.now))
+    × (map (λ p. p.second) l.out.items ≡ list_of l.k (second l.study.numbers.now))

@@ -11,7 +11,7 @@ use Rattle.operations.proofs.Grown.{list_begun, list_turn}
 use Rattle.numbers.proofs.read_sizes.Goals as goal
 
 pub loop-i-init : goal.loop-i-init
-loop-i-init c = c.new-sizes.ensures ∙ sym (list_begun _)
+loop-i-init c = c.clear.ensures ∙ sym (list_begun _)
 
 pub size-requires : goal.size-requires
 size-requires c = omega (arith, trains_range c.args.study.held, c.trains-i-end.ensures)

@@ -4,4 +4,4 @@ use Rattle.shift.proofs.Rooms.{lift_asked}
 use Rattle.shift.proofs.lift_trains.Goals as goal
 
 pub project_unary-requires : goal.project_unary-requires
-project_unary-requires c = rw c.loop-i.invariant (lift_asked c.requires.0 c.requires.3 c.loop-i.i c.requires.1 (omega arith))
+project_unary-requires c = rw c.loop-i.invariant (lift_asked c.requires.0 c.args.lifts.small c.loop-i.i c.requires.1 (omega arith))

@@ -5,4 +5,4 @@ use Rattle.rewriting.specs.Moves.{project_unary}
 use Rattle.shift.proofs.lift_trains.Given as goal
 
 abbrev pub invariant-loop-i : goal.invariant-loop-i
-invariant-loop-i l = l.b ≡ iter l.i (λ i. project_unary i (at l.lifts i)) l.initial.b
+invariant-loop-i l = l.b ≡ iter l.i (λ i. project_unary i (at l.lifts.numbers.now i)) l.initial.b

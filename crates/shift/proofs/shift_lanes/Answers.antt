@@ -7,4 +7,4 @@ pub project-requires : goal.project-requires
 project-requires c =
     let a = c.args in
     let r = c.requires.shape_in_range in
-    rw c.loop-x.invariant (lane_asked r.0 r.3 a.side a.start a.k c.loop-x.x r.1 r.2 (omega arith))
+    rw c.loop-x.invariant (lane_asked r.0 a.moves.small a.side a.start a.k c.loop-x.x r.1 r.2 (omega arith))

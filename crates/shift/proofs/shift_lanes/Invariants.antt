@@ -5,4 +5,4 @@ use Rattle.rewriting.specs.Moves.{project}
 use Rattle.shift.proofs.shift_lanes.Given as goal
 
 abbrev pub invariant-loop-x : goal.invariant-loop-x
-invariant-loop-x l = l.b ≡ iter l.x (λ y. project l.side l.k y (at l.moves (l.start + y))) l.initial.b
+invariant-loop-x l = l.b ≡ iter l.x (λ y. project l.side l.k y (at l.moves.numbers.now (l.start + y))) l.initial.b

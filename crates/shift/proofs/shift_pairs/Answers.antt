@@ -15,8 +15,8 @@ shift_pair-start-requires c =
     let l = c.loop-k in
     let b = c.args.b.now in
     let h : l.k < pairs b = omega arith in record {
-      shape_in_range = rw l.invariant.1 (pair_asked c.requires.0 c.requires.3 l.k h c.requires.1);
-      k_in_bounds = omega (arith, moves_part (shape_of b) l.k (pairs b) h, pair_kept c.requires.0 c.requires.3 l.k h l.invariant.1);
+      shape_in_range = rw l.invariant.1 (pair_asked c.requires.0 c.args.moves.small l.k h c.requires.1);
+      k_in_bounds = omega (arith, moves_part (shape_of b) l.k (pairs b) h, pair_kept c.requires.0 c.args.moves.small l.k h l.invariant.1);
     }
 
 pub loop-k-preserved : goal.loop-k-preserved
@@ -25,6 +25,6 @@ loop-k-preserved c =
     let a = c.args in
     let h : l.k < pairs a.b.now = omega arith in
     let r = c.shift_pair-start.ensures in (
-      omega (arith, r.0, sum_more l.k (pair_moves (shape_of a.b.now)), pair_kept c.requires.0 c.requires.3 l.k h l.invariant.1),
-      iter_turn (λ k. pair_shifted a.moves.now (moves_before (shape_of a.b.now) k) k) a.b.now l.invariant.1 (rw l.invariant.0 at r.1),
+      omega (arith, r.0, sum_more l.k (pair_moves (shape_of a.b.now)), pair_kept c.requires.0 c.args.moves.small l.k h l.invariant.1),
+      iter_turn (λ k. pair_shifted a.moves.numbers.now (moves_before (shape_of a.b.now) k) k) a.b.now l.invariant.1 (rw l.invariant.0 at r.1),
     )

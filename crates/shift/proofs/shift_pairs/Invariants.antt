@@ -7,4 +7,4 @@ use Rattle.shift.proofs.shift_pairs.Given as goal
 
 abbrev pub invariant-loop-k : goal.invariant-loop-k
 invariant-loop-k l =
-    (l.start ≡ moves_before (shape_of l.initial.b) l.k) × (l.b ≡ iter l.k (λ k. pair_shifted l.moves (moves_before (shape_of l.initial.b) k) k) l.initial.b)
+    (l.start ≡ moves_before (shape_of l.initial.b) l.k) × (l.b ≡ iter l.k (λ k. pair_shifted l.moves.numbers.now (moves_before (shape_of l.initial.b) k) k) l.initial.b)

@@ -1,24 +1,16 @@
--- The costs so far are listed, and each turn lists one.
-use mathlib.Core.Path.{sym, ap, ◌∙◌}
-use mathlib.Core.List.{List}
-use Prim.Native.Nat.{ℕ}
-use native.Mathlib.Omega.{arith}
-use lib.ListN.{length}
+-- The cells are those of the choices.
+use mathlib.Core.Path.{◌≡◌, sym, ap, ◌∙◌}
+use Rattle.std.proofs.Common.{rules, ℕ, ◌<◌, ◌*◌, ◌/◌, ◌%◌}
 use Rattle.theory.specs.Lists.{nth}
-use Rattle.theory.proofs.Lists.{list_length}
-use Rattle.operations.proofs.Grown.{list_begun, list_turn}
-use Rattle.clauses.specs.Clauses.{choice_cost_at}
+use Rattle.theory.proofs.Lists.{list_is}
+use Rattle.clauses.specs.Clauses.{clause_choices, cell_at, choice_cost_at}
 use Rattle.clauses.proofs.loads.list_choices.Goals as goal
 
-pub loop-o-init : goal.loop-o-init
-loop-o-init c = c.new-choices.ensures ∙ sym (list_begun _)
-
-pub push-requires : goal.push-requires
-push-requires c =
-    let e = ap (λ (l : List ℕ). length l) c.loop-o.invariant ∙ list_length (choice_cost_at (nth c.args.cells.now)) c.loop-o.o in
-    omega arith
-
-pub loop-o-preserved : goal.loop-o-preserved
-loop-o-preserved c =
+pub returns : goal.returns
+returns c =
     let l = c.args.cells.now in
-    list_turn (choice_cost_at (nth l)) c.loop-o.o c.loop-o.invariant (ap (nth l) c.cell_at.ensures.value) c.push.ensures.items
+    let f = choice_cost_at (nth l) in
+    let s = c.list_cells.result.items in
+    let g = c.list_cells.ensures.costs in
+    let at_entry : (o : ℕ) → o < clause_choices * c.args.n → f o ≡ nth s o = λ o h. let e : (g o h).0 ≡ cell_at (o / clause_choices) (o % clause_choices) (o / clause_choices) (o % clause_choices) = search rules in sym ((g o h).2 ∙ ap (nth l) e) in
+    sym (list_is (clause_choices * c.args.n) f s c.list_cells.ensures.whole at_entry)

@@ -1,22 +1,17 @@
--- The costs so far are listed, and each turn lists one.
-use mathlib.Core.Path.{refl, sym, ap, ◌∙◌}
-use mathlib.Core.List.{List}
-use Prim.Native.Nat.{ℕ}
-use native.Mathlib.Omega.{arith}
-use lib.ListN.{length}
+-- The cells are those of the entries of the pairs.
+use mathlib.Core.Path.{◌≡◌, sym, ap, ◌∙◌}
+use Rattle.std.proofs.Common.{rules, ℕ, ◌<◌, ◌+◌, ◌*◌, ◌/◌, ◌%◌, length}
 use Rattle.theory.specs.Lists.{nth}
-use Rattle.theory.proofs.Lists.{list_length}
-use Rattle.operations.proofs.Grown.{list_begun, list_turn}
-use Rattle.clauses.specs.Clauses.{entry_cost_at}
+use Rattle.theory.proofs.Lists.{list_is}
+use Rattle.clauses.specs.Clauses.{clause_entries, entry_cost_at}
 use Rattle.clauses.proofs.loads.list_entries.Goals as goal
 
-pub loop-o-init : goal.loop-o-init
-loop-o-init c = c.new-entries.ensures ∙ sym (list_begun _)
-
-pub push-requires : goal.push-requires
-push-requires c =
-    let e = ap (λ (l : List ℕ). length l) c.loop-o.invariant ∙ list_length (entry_cost_at (nth c.args.cells.now) c.args.codes.now) c.loop-o.o in
-    omega arith
-
-pub loop-o-preserved : goal.loop-o-preserved
-loop-o-preserved c = list_turn (entry_cost_at (nth c.args.cells.now) c.args.codes.now) c.loop-o.o c.loop-o.invariant refl c.push.ensures.items
+pub returns : goal.returns
+returns c =
+    let l = c.args.cells.now in
+    let m = c.args.codes.now in
+    let f = entry_cost_at (nth l) m in
+    let s = c.list_cells.result.items in
+    let g = c.list_cells.ensures.costs in
+    let at_entry : (o : ℕ) → o < clause_entries * length m → f o ≡ nth s o = λ o h. let e : (g o h).0 ≡ clause_entries * nth m (o / clause_entries) + o % clause_entries = search rules in sym ((g o h).2 ∙ ap (nth l) e) in
+    sym (list_is (clause_entries * length m) f s c.list_cells.ensures.whole at_entry)

@@ -9,6 +9,7 @@ use Rattle.tables.specs.Block.{max_trains, max_pairs}
 use Rattle.operations.specs.declared.load_numbers.LoadNumbers.{LoadNumbers}
 use Rattle.operations.specs.Load.{loaded_block}
 use Rattle.operations.specs.Given.{numbers_given}
+use Rattle.clauses.specs.declared.clause.Clause.{Clause}
 use Rattle.clauses.specs.Given.{clauses_given}
 use Rattle.clauses.specs.Clauses.{pair_codes, clause_numbers, sums_within}
 use Rattle.clauses.proofs.Cells.{clear_wider}
@@ -17,32 +18,34 @@ use Rattle.clauses.proofs.Loading.{codes_small, clauses_made, pairs-declined, su
 use Rattle.clauses.proofs.loads.load_clauses.Goals.{After-sums_within}
 use Rattle.clauses.proofs.loads.load_clauses.Goals as goal
 
-pub name_pairs-codes-requires : goal.name_pairs-codes-requires
-name_pairs-codes-requires c = clear_wider max_trains c.requires.trains.1 c.requires.clear
+-- the clear clauses are those that were given, so their pairs are
+named : (l : List Clause) {k : List Clause} {codes : List ℕ} → k ≡ l → codes ≡ pair_codes (clauses_given k) → codes ≡ pair_codes (clauses_given l)
+named l e f = f ∙ ap (λ (m : List Clause). pair_codes (clauses_given m)) e
+
+pub known-clear-requires : goal.known-clear-requires
+known-clear-requires c = clear_wider max_trains c.requires.trains.1 c.requires.clear
 
 pub returns-then-len-gt-PAIRS : goal.returns-then-len-gt-PAIRS
 returns-then-len-gt-PAIRS c =
     let a = c.args in
-    let e = ap (λ (l : List ℕ). length l) c.name_pairs-codes.ensures in
+    let e = ap (λ (l : List ℕ). length l) (named a.clauses.now c.known-clear.ensures c.charge-charges.ensures.pairs) in
     let w = pairs-declined a.n a.scale (clauses_given a.clauses.now) a.block.now (omega (arith, c.len.ensures.value)) in
     record { value = w.0; block_after = w.1 }
-
-pub charge-requires : goal.charge-requires
-charge-requires c = clear_wider max_trains c.requires.trains.1 c.requires.clear
 
 pub numbers-numbers-requires : goal.numbers-numbers-requires
 numbers-numbers-requires c =
     let e = ap (λ (l : List ℕ). length l) c.deref.ensures.0 in
-    (c.requires.trains.1, omega (arith, c.len.ensures.value), codes_small (clauses_given c.args.clauses.now) (c.deref.ensures.0 ∙ c.name_pairs-codes.ensures))
+    (c.requires.trains.1, omega (arith, c.len.ensures.value), codes_small (clauses_given c.args.clauses.now) (c.deref.ensures.0 ∙ named c.args.clauses.now c.known-clear.ensures c.charge-charges.ensures.pairs))
 
 -- there are not too many pairs, and the numbers are those of the clauses
 module _ (c : After-sums_within) where
   few : length (pair_codes (clauses_given c.args.clauses.now)) ≤ max_pairs
-  few = let e = ap (λ (l : List ℕ). length l) c.name_pairs-codes.ensures in omega (arith, c.len.ensures.value)
+  few = let e = ap (λ (l : List ℕ). length l) (named c.args.clauses.now c.known-clear.ensures c.charge-charges.ensures.pairs) in omega (arith, c.len.ensures.value)
 
   are : numbers_given c.numbers-numbers.result ≡ clause_numbers c.args.n c.args.scale (clauses_given c.args.clauses.now)
   are =
-      clauses_made c.args.n c.args.scale c.args.clauses.now c.charge.result c.requires.trains.1 c.charge.ensures (c.deref.ensures.0 ∙ c.name_pairs-codes.ensures)
+      clauses_made c.args.n c.args.scale c.args.clauses.now c.charge-charges.result.cells c.requires.trains.1 (rw c.known-clear.ensures at c.charge-charges.ensures.costs)
+      (c.deref.ensures.0 ∙ named c.args.clauses.now c.known-clear.ensures c.charge-charges.ensures.pairs)
       c.numbers-numbers.ensures
 
   judged : {t : Bool} → t ≡ sums_within (numbers_given c.numbers-numbers.result) → sums_within (clause_numbers c.args.n c.args.scale (clauses_given c.args.clauses.now)) ≡ t

@@ -25,4 +25,4 @@ pub returns : goal.returns
 unfolding clause_run_verdict
 returns c =
     let e : c.loop-k.k ≡ c.args.count = omega arith in
-    rw (rw e at c.loop-k.invariant, sym c.clause_at.ensures) c.end_verdict.ensures
+    rw (rw e at c.loop-k.invariant, sym c.clause_at.ensures, sym c.bytes.ensures) c.end_verdict.ensures

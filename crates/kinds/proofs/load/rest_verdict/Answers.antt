@@ -50,4 +50,4 @@ pub returns : goal.returns
 unfolding rest_verdict
 returns c =
     let e : c.loop-k.k ≡ c.args.m = omega arith in
-    rw (rw e at c.loop-k.invariant.fine, sym (rw e at c.loop-k.invariant.at)) c.end_verdict.ensures
+    rw (rw e at c.loop-k.invariant.fine, sym (rw e at c.loop-k.invariant.at), sym c.bytes.ensures) c.end_verdict.ensures

@@ -14,7 +14,7 @@ open_train-left-requires c =
     let o = c.new-walk.ensures.started in
     record {
       block = c.args.study.numbers.now;
-      at = started_at c.args.study.held (rw c.new-walk.ensures.table c.lay_costs.ensures) c.lay_own.ensures o.chosen c.constant.ensures;
+      at = started_at c.args.study.held (rw c.new-walk.ensures.table c.new.ensures) c.lay_own.ensures o.chosen c.constant.ensures;
       going = rw o.best (record { unmet = λ h. refl; low = omega arith });
     }
 
@@ -26,6 +26,6 @@ returns c =
     let o = c.new-walk.ensures.started in
     let e = c.constant.ensures in
     let w : walk_of c.args.budget c.open_train-left.result c.open_train-left.new.self.best ≡ searched b c.args.budget =
-    c.open_train-left.ensures.walk b c.args.budget (started_at s (rw c.new-walk.ensures.table c.lay_costs.ensures) c.lay_own.ensures o.chosen e) (rw o.best (omega arith))
+    c.open_train-left.ensures.walk b c.args.budget (started_at s (rw c.new-walk.ensures.table c.new.ensures) c.lay_own.ensures o.chosen e) (rw o.best (omega arith))
     ∙ rw (o.chosen, o.best) (sym (starts b c.args.budget s (trains_range s).0 e (held_start c.args.budget))) in
-    c.answer_of.ensures ∙ ap₂ shown c.lay_costs.ensures.s w
+    c.answer_of.ensures ∙ ap₂ shown c.new.ensures.s w

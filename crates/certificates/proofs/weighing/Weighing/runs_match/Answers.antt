@@ -2,8 +2,8 @@
 use Rattle.std.proofs.Common.{rules}
 use borrow.Author.Tests.{tests}
 use Rattle.std.proofs.lemmas.Iterator.{serves_from_Range}
+use Rattle.theory.proofs.Chains.{range_all}
 use Rattle.certificates.specs.Runs.{run_matches}
-use Rattle.certificates.proofs.Ranges.{all_over}
 use Rattle.certificates.proofs.weighing.Weighing.runs_match.Goals as goal
 
 pub all-requires-clause-callable : goal.all-requires-clause-callable
@@ -12,4 +12,4 @@ all-requires-clause-callable c = serves_from_Range (λ x q k. search rules) (λ 
 pub returns : goal.returns
 returns c =
     let a = c.args in
-    all_over (run_matches a.self.weights.now a.from a.apart a.step a.count a.choices) a.runs _ _ _ c.all.ensures.ran (search rules) (λ x b q k. search (rules, tests))
+    range_all (run_matches a.self.weights.now a.from a.apart a.step a.count a.choices) a.runs _ _ _ c.all.ensures.ran (search rules) (λ x b q k. search (rules, tests))

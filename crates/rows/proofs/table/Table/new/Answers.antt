@@ -1,4 +1,4 @@
--- Each field is laid by a function of its own.
+-- Each field is laid by a function of its own, and the costs are laid already.
 use native.Mathlib.Omega.{arith}
 use Rattle.tables.proofs.Study.{trains_range}
 use Rattle.rows.proofs.table.Table.new.Goals as goal
@@ -13,4 +13,5 @@ returns c =
       ends = c.rows.ensures.ends;
       bases = c.rows.ensures.bases;
       begins = c.begins.ensures;
+      rows = λ k d a h. c.requires k h d a;
     }

@@ -1,0 +1,6 @@
+-- The costs of the pairs passed so far are laid.
+use Rattle.rows.specs.Table.{CostsLaid}
+use Rattle.rows.proofs.table.lay_costs.Given as goal
+
+abbrev pub invariant-loop-k : goal.invariant-loop-k
+invariant-loop-k l = CostsLaid l.study.numbers.now l.k l.costs
