@@ -17,4 +17,6 @@ pub mod GivenBack
 pub mod Rounds
 pub mod Forbidden
 pub mod Clauses
+pub mod Limits
+pub mod BlockLimits
 pub mod PlanCosts

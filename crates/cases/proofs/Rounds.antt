@@ -8,7 +8,7 @@ use Rattle.tables.specs.WellFormed.{fresh_block}
 use Rattle.cases.specs.Written.{Written}
 use Rattle.cases.specs.Calls.{Block, held, Row, call, row, declined, Right}
 use Rattle.cases.specs.Computed.{computed}
-use Rattle.cases.specs.Studies.{fresh, j_with, j}
+use Rattle.cases.specs.Studies.{fresh, j_with, j, without_pairs}
 use Rattle.cases.specs.Sessions.{gets, handed, Session}
 use Rattle.cases.proofs.Rows.{right_by}
 use Rattle.cases.proofs.Marked.{lifted}
@@ -46,28 +46,23 @@ unfoldable pub halves_round : Block
 unfolding computed branch_with
 halves_round = held (branch_with 2 2 ((0 ∷ 0 ∷ []) ∷ (0 ∷ 0 ∷ []) ∷ []) ((0 ∷ 2 ∷ []) ∷ (0 ∷ 0 ∷ []) ∷ [])) refl
 
--- a study without pairs: its sizes, its choices in points; then its constant and its choices in parts
-unfoldable pub apart : ℕ → List ℕ → List (List ℕ) → ℕ → List (List ℕ) → Written
-apart s sizes points c0 choices =
-    record { scale = s; constant = c0; sizes = sizes; firsts = []; seconds = []; loaded_choices = points; held_choices = choices; loaded_entries = []; held_entries = [] }
-
 -- one train with three parts a point, which lifts 6
 unfoldable pub single : Block
-unfolding computed apart
-single = held (apart 3 (2 ∷ []) ((5 ∷ 2 ∷ []) ∷ []) 0 ((15 ∷ 6 ∷ []) ∷ [])) refl
+unfolding computed without_pairs
+single = held (without_pairs 3 (2 ∷ []) ((5 ∷ 2 ∷ []) ∷ []) 0 ((15 ∷ 6 ∷ []) ∷ [])) refl
 
 unfoldable pub single_round : Block
-unfolding computed apart
-single_round = held (apart 3 (2 ∷ []) ((5 ∷ 2 ∷ []) ∷ []) 6 ((9 ∷ 0 ∷ []) ∷ [])) refl
+unfolding computed without_pairs
+single_round = held (without_pairs 3 (2 ∷ []) ((5 ∷ 2 ∷ []) ∷ []) 6 ((9 ∷ 0 ∷ []) ∷ [])) refl
 
 -- two trains, which lift 3 and 2
 unfoldable pub unpaired : Block
-unfolding computed apart
-unpaired = held (apart 1 (2 ∷ 1 ∷ []) ((5 ∷ 2 ∷ []) ∷ (3 ∷ []) ∷ []) 0 ((5 ∷ 2 ∷ []) ∷ (3 ∷ []) ∷ [])) refl
+unfolding computed without_pairs
+unpaired = held (without_pairs 1 (2 ∷ 1 ∷ []) ((5 ∷ 2 ∷ []) ∷ (3 ∷ []) ∷ []) 0 ((5 ∷ 2 ∷ []) ∷ (3 ∷ []) ∷ [])) refl
 
 unfoldable pub unpaired_round : Block
-unfolding computed apart
-unpaired_round = held (apart 1 (2 ∷ 1 ∷ []) ((5 ∷ 2 ∷ []) ∷ (3 ∷ []) ∷ []) 5 ((3 ∷ 0 ∷ []) ∷ (0 ∷ []) ∷ [])) refl
+unfolding computed without_pairs
+unpaired_round = held (without_pairs 1 (2 ∷ 1 ∷ []) ((5 ∷ 2 ∷ []) ∷ (3 ∷ []) ∷ []) 5 ((3 ∷ 0 ∷ []) ∷ (0 ∷ []) ∷ [])) refl
 
 -- trains 0 and 1 are both partners of train 2: the study with this constant, and these costs in parts
 unfoldable pub partners : ℕ → List (List ℕ) → List (List (List ℕ)) → Written
@@ -131,7 +126,7 @@ table =
     ∷ []
 
 pub table_right : Right table
-unfolding computed fresh j_with j lifted branch_with branch branch_round halves halves_round apart single single_round unpaired unpaired_round partners two two_round table
+unfolding computed fresh j_with j lifted branch_with branch branch_round halves halves_round without_pairs single single_round unpaired unpaired_round partners two two_round table
 table_right = right_by table refl
 
 -- its first five rows are one list of calls from a fresh block

@@ -4,8 +4,9 @@ use Rattle.theory.specs.Lists.{nth}
 use Rattle.tables.specs.Numbers.{permits, paid}
 use Rattle.tables.specs.Plans.{choice_total, pair_total, total}
 use Rattle.lines.specs.Kinds.{new_kind}
+use Rattle.replies.specs.Shown.{accepted}
 use Rattle.service.specs.Calls.{Exchange}
-use Rattle.claims.specs.Ledger.{Ledger, accepted, fed, ledger_of, empty_ledger, cost_of}
+use Rattle.claims.specs.Ledger.{Ledger, fed, ledger_of, empty_ledger, cost_of}
 
 -- a first choice before each plan of the other trains
 unfoldable pub before : ℕ → List (List ℕ) → List (List ℕ)

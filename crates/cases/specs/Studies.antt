@@ -1,4 +1,4 @@
--- Document 01's fresh block, and its study J as its load leaves it.
+-- Document 01's fresh block, its study J as its load leaves it, and studies without pairs.
 use Rattle.std.specs.Prelude.{refl, true, List, [], ◌∷◌, ℕ}
 use Prim.Native.String.{String}
 use Rattle.tables.specs.WellFormed.{fresh_block}
@@ -33,3 +33,8 @@ j_with c0 choices entries =
 unfoldable pub j : Block
 unfolding computed j_with
 j = held (j_with 0 ((2 ∷ 0 ∷ []) ∷ (0 ∷ 0 ∷ []) ∷ []) ((1 ∷ 0 ∷ []) ∷ (3 ∷ 2 ∷ []) ∷ [])) refl
+
+-- a study without pairs: how many parts a point has, its sizes, its choices in points; then its constant and its choices in parts
+unfoldable pub without_pairs : ℕ → List ℕ → List (List ℕ) → ℕ → List (List ℕ) → Written
+without_pairs s sizes points c0 choices =
+    record { scale = s; constant = c0; sizes = sizes; firsts = []; seconds = []; loaded_choices = points; held_choices = choices; loaded_entries = []; held_entries = [] }

@@ -1,5 +1,5 @@
--- After any list of calls from the fresh block the block is fresh still, or it and the ledger keep together: before the first accepted load only a load, of kind 01 or 09, is accepted, and each call
--- after it keeps them together.
+-- After any list of calls from the fresh block the block is fresh still, or it and the ledger keep together: before the first accepted load nothing is accepted that needs a study, and each call after it
+-- keeps them together.
 use Rattle.std.specs.Prelude.{Ok, Err}
 use mathlib.Core.Path.{◌≡◌, refl, sym, subst}
 use mathlib.Core.Bool.{Bool, true, false, cond, ◌&&◌}
@@ -8,30 +8,31 @@ use mathlib.Core.Logic.{◌⊎◌, inl, inr}
 use Prim.Native.Nat.{ℕ, ◌≤◌}
 use lib.IntN.{ℤ}
 use lib.ListN.{length}
-use Rattle.theory.proofs.Range.{not_both, both_true}
+use Rattle.theory.proofs.Range.{not_both}
 use Rattle.refusals.specs.Verdicts.{Verdict, Fine}
 use Rattle.tables.specs.WellFormed.{well_formed, fresh_block}
 use Rattle.tables.proofs.Study.{study_well_formed, fresh_is_fresh, fresh_well_formed}
 use Rattle.lines.specs.declared.kind.Kind.TheVariants as kind
 use Rattle.lines.specs.declared.request.Request.{Request}
-use Rattle.lines.specs.declared.request.Request.TheVariants.{Load, Add, Shift, Tighten, Certify, Search, Save, Round, Clauses}
-use Rattle.lines.specs.Kinds.{new_kind, request_kind}
+use Rattle.lines.specs.declared.request.Request.TheVariants.{Load, Clauses}
+use Rattle.lines.specs.Kinds.{new_kind, needs_study, request_kind}
 use Rattle.lines.specs.Layout.{kind_of}
 use Rattle.kinds.specs.Clauses.{clauses_verdict, clauses_request}
 use Rattle.reader.proofs.LineAccepted.{Makes, line_makes}
 use Rattle.reader.proofs.LineKind.{line_known}
 use Rattle.replies.specs.Replies.{longest_fixed, refusal_reply}
-use Rattle.requests.specs.Answer.{Answer, requested, line_answer}
+use Rattle.replies.specs.Shown.{accepted}
+use Rattle.replies.proofs.Accepted.{empty_refused, refusal_refused}
+use Rattle.requests.specs.Answer.{Answer, answered, requested, line_answer}
 use Rattle.requests.proofs.LineCases.{line_cases}
 use Rattle.service.specs.Answer.{answer}
 use Rattle.service.specs.Calls.{Call, Exchange, exchange, last_block, blocks, exchanges}
 use Rattle.service.proofs.AnswerCases.{fixed_fit, answer_cases}
 use Rattle.service.proofs.Lists.{next_answer, exchanges_more}
-use Rattle.claims.specs.Ledger.{Ledger, accepted, by_kind, loads, fed, ledger_of, empty_ledger, has_load}
+use Rattle.claims.specs.Ledger.{Ledger, by_kind, loads, fed, ledger_of, empty_ledger, has_load}
 use Rattle.claims.specs.Claims.{AtCall, EachCall}
 use Rattle.claims.proofs.Keeps.{Keeps}
 use Rattle.claims.proofs.Steps.{fed_refused, Good, line_allowed, declined-call, empty_call, good_load, clauses_answer, outcome_of, good_clauses, clauses_allowed, good_line, good_call}
-use Rattle.claims.proofs.Accepted.{empty_refused, refusal_refused}
 
 -- ---- fresh, or kept together
 
@@ -54,9 +55,14 @@ called_good : {g : Ledger} {b : List ℤ} {l : List ℕ} {a : Answer} → Good g
 called_good w = record { state = inr w.keeps; kept = λ y. w.keeps; call = w.call }
 
 module _ (g : Ledger) (l : List ℕ) where
-  -- a fresh block, and a reply that is not accepted
-  called_quiet : (reply : List ℕ) → accepted reply ≡ false → AtCall g fresh_block (exchange l reply) → Called g fresh_block l (record { block = fresh_block; reply = reply })
-  called_quiet reply e c = record { state = inl refl; kept = λ y. absurd (not_both (both_true (accepted reply) (by_kind loads false l) y).0 e); call = rw (fed_refused g l reply e) c }
+  -- a reply that leaves the block fresh, and is none to an accepted load
+  called_still : (reply : List ℕ) → accepted reply && by_kind loads false l ≡ false → AtCall (fed (exchange l reply) g) fresh_block (exchange l reply)
+      → Called g fresh_block l (answered fresh_block reply)
+  called_still reply e c = record { state = inl refl; kept = λ y. absurd (not_both y e); call = c }
+
+  -- one that is not accepted
+  called_quiet : (reply : List ℕ) → accepted reply ≡ false → AtCall g fresh_block (exchange l reply) → Called g fresh_block l (answered fresh_block reply)
+  called_quiet reply e c = called_still reply (rw e) (rw (fed_refused g l reply e) c)
 
   -- on a fresh block clauses load, or are declined
   new_clauses : new_kind (kind_of l) ≡ Ok kind.Clauses → clauses_verdict l ≡ Fine → Called g fresh_block l (requested (clauses_request l) l fresh_block)
@@ -67,17 +73,15 @@ module _ (g : Ledger) (l : List ℕ) where
       go (Ok _) f = called_good (good_clauses g l fresh_block e v f)
       go (Err r) f = called_quiet (refusal_reply r) (refusal_refused r) (declined-call g fresh_block l r (clauses_allowed g l r e f))
 
-  -- on a fresh block only what loads is asked
+  -- what needs a study is not asked on a fresh block
+  not_on_fresh : (q : Request) → Makes l fresh_block q → needs_study (request_kind q) ≡ true → ⊥
+  not_on_fresh q m n = not_both fresh_is_fresh (rw n at m.2)
+
+  -- so only what needs none is: a load
   new_request : (q : Request) → Makes l fresh_block q → new_kind (kind_of l) ≡ Ok (request_kind q) → Called g fresh_block l (requested q l fresh_block)
   new_request (Load q) m e = called_good (subst (λ (s : Request). Good g fresh_block l (requested s l fresh_block)) (sym m.0) (good_load g l fresh_block e m.1))
-  new_request (Add q) m e = absurd (not_both fresh_is_fresh m.2)
-  new_request (Shift q) m e = absurd (not_both fresh_is_fresh m.2)
-  new_request Tighten m e = absurd (not_both fresh_is_fresh m.2)
-  new_request (Certify q) m e = absurd (not_both fresh_is_fresh m.2)
-  new_request (Search q) m e = absurd (not_both fresh_is_fresh m.2)
-  new_request Save m e = absurd (not_both fresh_is_fresh m.2)
-  new_request Round m e = absurd (not_both fresh_is_fresh m.2)
   new_request (Clauses q) m e = subst (λ (s : Request). Called g fresh_block l (requested s l fresh_block)) (sym m.0) (new_clauses e m.1)
+  new_request q m e = absurd (not_on_fresh q m refl)
 
   line_new : (room : ℕ) → longest_fixed ≤ room → Called g fresh_block l (line_answer l fresh_block room)
   line_new room h =

@@ -1,7 +1,5 @@
 -- What no line but a load changes: an addition writes natural numbers where such stood; moves never meet H, and the tables of a study are mates, so that T is forbidden where H is.
-use Rattle.std.specs.Prelude.{Result, Ok, Err}
-use Rattle.refusals.specs.declared.Refusal.{Refusal}
-use Rattle.certificates.specs.declared.certify.Ceiling.{Ceiling}
+use Rattle.std.specs.Prelude.{Ok, Err}
 use mathlib.Core.Path.{◌≡◌, refl, sym, ap, ◌∙◌}
 use mathlib.Core.Bool.{false}
 use mathlib.Core.List.{List}
@@ -25,18 +23,17 @@ use Rattle.tighten.specs.Tighten.{tightened}
 use Rattle.tighten.proofs.Ends.{tighten_rewrites}
 use Rattle.directional.specs.Directional.{directed}
 use Rattle.directional.proofs.Ends.{direct_rewrites}
-use Rattle.certificates.specs.Certify.{weights_of, certificate}
-use Rattle.frames.specs.Runs.{run_of, signed_run_of}
+use Rattle.frames.specs.Runs.{signed_run_of}
 use Rattle.lines.specs.declared.kind.Kind.{Kind}
 use Rattle.lines.specs.declared.kind.Kind.TheVariants as kind
 use Rattle.lines.specs.declared.request.Request.{Request}
-use Rattle.lines.specs.declared.request.Request.TheVariants.{Load, Add, Shift, Tighten, Certify, Search, Save, Round, Clauses}
-use Rattle.lines.specs.Layout.{move_width, weight_width}
+use Rattle.lines.specs.declared.request.Request.TheVariants.{Load, Add, Shift, Tighten, Round, Clauses}
+use Rattle.lines.specs.Layout.{move_width}
 use Rattle.reader.proofs.LineKind.{line_known}
-use Rattle.requests.specs.Answer.{operated, certified, requested}
+use Rattle.requests.specs.Answer.{operated, requested}
 use Rattle.requests.specs.Wrote.{Asks}
 use Rattle.requests.proofs.Ready.{study_ready, add_ready}
-use Rattle.requests.proofs.Outcomes.{operated_leaves}
+use Rattle.requests.proofs.Outcomes.{operated_leaves, requested_leaves}
 use Rattle.requests.proofs.LineCases.{line_cases}
 use Rattle.service.proofs.AnswerCases.{fixed_fit, answer_cases}
 use Rattle.claims.specs.Ledger.{by_kind, loads}
@@ -60,12 +57,8 @@ settled_alike b c (Err r) e = λ p l h. refl
 operated_alike : (b c : List ℤ) (kind : Kind) (v : Verdict) → Alike b (settled v b c) → Alike b (operated kind v b c).block
 operated_alike b c kind v e p l h = ap (λ (d : List ℤ). is_open (at d p)) (operated_leaves kind v b c) ∙ e p l h
 
-certified_alike : (full_weight : ℕ) (c : Result Ceiling Refusal) (b : List ℤ) → Alike b (certified full_weight c b).block
-certified_alike full_weight (Err r) b p l h = refl
-certified_alike full_weight (Ok c) b p l h = refl
-
 module _ (l : List ℕ) (b : List ℤ) (other : by_kind loads false l ≡ false) (room : ℕ) where
-  -- a request that is no load
+  -- a request that is no load: one of the kinds that change the block, or of one that leaves it
   requested_alike : (q : Request) → Asks l b q room → Alike b (requested q l b).block
   unfolding requested
   requested_alike (Load q) a = absurd (not_both (by_kind_lem loads false l (line_known l b (Load q) a.asked)) other)
@@ -79,11 +72,9 @@ module _ (l : List ℕ) (b : List ℤ) (other : by_kind loads false l ≡ false)
       let s = study_ready a refl in
       operated_alike b (kept b (shifted lifts moves b)) kind.Shift (judged b (shifted lifts moves b)) (judged_alike s (shift_rewrites s lifts moves))
   requested_alike Tighten a = let s = study_ready a refl in operated_alike b (kept b (tightened b)) kind.Tighten (judged b (tightened b)) (judged_alike s (tighten_rewrites s))
-  requested_alike (Certify q) a = certified_alike q.full (certificate b (weights_of b q.full (run_of l q.weights.at weight_width q.weights.count))) b
-  requested_alike (Search q) a = λ p m h. refl
-  requested_alike Save a = λ p m h. refl
-  requested_alike (Clauses q) a = absurd (not_both (by_kind_lem loads false l (line_known l b (Clauses q) a.asked)) other)
   requested_alike Round a = let s = study_ready a refl in operated_alike b (kept b (directed b)) kind.Round (judged b (directed b)) (judged_alike s (direct_rewrites s))
+  requested_alike (Clauses q) a = absurd (not_both (by_kind_lem loads false l (line_known l b (Clauses q) a.asked)) other)
+  requested_alike q a = λ p m h. ap (λ (c : List ℤ). is_open (at c p)) (requested_leaves q l b refl)
 
 pub forbidden_stays : ForbiddenStays
 forbidden_stays l b buffer other =

@@ -1,5 +1,4 @@
 -- The laws of the crate: one file for each idea.
-pub mod Accepted
 pub mod ByKind
 pub mod Declined
 pub mod Shifts
@@ -18,4 +17,6 @@ pub mod Saves
 pub mod Rounds
 pub mod Forbidden
 pub mod Stops
+pub mod ByComputing
 pub mod Uses
+pub mod UsesForbidden

@@ -27,12 +27,12 @@ use Rattle.lines.specs.Layout.{kind_of}
 use Rattle.search.specs.declared.answer.Found.{Found}
 use Rattle.search.specs.Answer.{is_found, found_cost, found_plan}
 use Rattle.replies.specs.Replies.{refusal_reply, figure_width, choice_width, flag, bound_reply, certify_reply, shown_cost, shown_choice, search_reply}
-use Rattle.replies.specs.Shown.{kind_shown, says_ended, says_ended_without, cost_shown, plan_shown, shows_plan}
+use Rattle.replies.specs.Shown.{kind_shown, accepted, says_ended, says_ended_without, cost_shown, plan_shown, shows_plan}
 use Rattle.replies.proofs.ReadBack.{refusal_number_lem, constant-shown, bound_shown_lem, certify_flag, certify_weighted, certify_full_weight_lem, search_ended, search_without, search_cost, search_plan}
 use Rattle.service.specs.Calls.{exchange}
-use Rattle.claims.specs.Ledger.{Ledger, accepted, by_kind, cost_of}
+use Rattle.claims.specs.Ledger.{Ledger, by_kind, cost_of}
 use Rattle.claims.specs.Claims.{PlanOf, DeclinedAs, outside, malformed, scaled_cost, start_costs, BoundClaim, CeilingClaim, SearchClaim, RoundClaim, Claim, shown_kind, never_outside, AtCall}
-use Rattle.claims.proofs.Accepted.{reply_low}
+use Rattle.claims.proofs.ByKind.{reply_low}
 
 -- ---- a call, from its line
 

@@ -17,16 +17,15 @@ use Rattle.lines.specs.declared.kind.Kind.TheVariants as kind
 use Rattle.lines.specs.declared.request.Request.TheVariants.{Round}
 use Rattle.lines.specs.Kinds.{new_kind}
 use Rattle.lines.specs.Layout.{kind_of}
+use Rattle.replies.specs.Shown.{accepted}
 use Rattle.requests.specs.Answer.{operated, requested}
 use Rattle.requests.specs.Wrote.{Asks}
 use Rattle.requests.proofs.Ready.{study_ready}
-use Rattle.requests.proofs.Outcomes.{operated_leaves}
+use Rattle.requests.proofs.Outcomes.{operated_leaves, operated_done}
 use Rattle.requests.proofs.LineCases.{fixed_line}
 use Rattle.service.specs.Answer.{answer}
 use Rattle.service.proofs.Calls.{answered_line}
-use Rattle.claims.specs.Ledger.{accepted}
 use Rattle.claims.specs.Rounds.{RoundRaises, RoundSettles}
-use Rattle.claims.proofs.Accepted.{operated_done}
 use Rattle.claims.proofs.Declined.{declined_leaves}
 use Rattle.claims.proofs.Shifts.{accepted_asks, asking_kind}
 

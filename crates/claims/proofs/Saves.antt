@@ -30,13 +30,13 @@ use Rattle.reader.proofs.LineAccepted.{line_makes}
 use Rattle.saving.proofs.Together.{save_framed, save_kind, save_again, save_study, save_as_loaded}
 use Rattle.saving.proofs.SavedLines.{save_read, save_after_line}
 use Rattle.replies.specs.Replies.{bound_reply}
+use Rattle.replies.proofs.Accepted.{bound_accepted}
 use Rattle.requests.specs.Answer.{answered, saved, requested, fitted}
 use Rattle.requests.proofs.LineCases.{asked_line, fixed_line}
 use Rattle.service.specs.Answer.{min_buffer, answer}
 use Rattle.service.proofs.AnswerCases.{fixed_fit}
 use Rattle.service.proofs.Calls.{answered_line}
 use Rattle.claims.specs.Saves.{save_line, SavesAs, SaveAfterLoad, LoadAfterSave}
-use Rattle.claims.proofs.Accepted.{bound_accepted}
 use Rattle.claims.proofs.Shifts.{accepted_asks, asking_kind}
 
 -- ---- a save

@@ -35,15 +35,15 @@ use Rattle.kinds.specs.Lines.{kind_request}
 use Rattle.reader.proofs.LineAccepted.{Makes, line_makes}
 use Rattle.reader.proofs.LineKind.{line_known}
 use Rattle.replies.specs.Replies.{refusal_reply}
+use Rattle.replies.specs.Shown.{accepted}
+use Rattle.replies.proofs.Accepted.{empty_refused, refusal_refused, bound_accepted}
 use Rattle.requests.specs.Answer.{operated, requested}
 use Rattle.requests.specs.Wrote.{Asks}
-use Rattle.requests.proofs.Outcomes.{operated_leaves}
+use Rattle.requests.proofs.Outcomes.{operated_leaves, operated_done}
 use Rattle.requests.proofs.LineCases.{fixed_line, line_cases}
 use Rattle.service.specs.Answer.{min_buffer, answer}
 use Rattle.service.proofs.AnswerCases.{fixed_fit, answer_cases}
 use Rattle.service.proofs.Calls.{answered_line}
-use Rattle.claims.specs.Ledger.{accepted}
-use Rattle.claims.proofs.Accepted.{empty_refused, refusal_refused, bound_accepted, operated_done}
 
 -- where a shift line's own numbers lead
 abbrev pub line_ends : List ℕ → List ℤ → Ends

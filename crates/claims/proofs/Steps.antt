@@ -62,22 +62,22 @@ use Rattle.reader.proofs.LineRefused.{of_reading, line_refused}
 use Rattle.search.specs.Answer.{search_answer}
 use Rattle.search.proofs.Theorems.{answer_entries}
 use Rattle.replies.specs.Replies.{refusal_reply, reply_kind, figure_width, bound_reply, certify_reply, search_reply, longest_fixed}
-use Rattle.replies.specs.Shown.{kind_shown}
+use Rattle.replies.specs.Shown.{kind_shown, accepted}
 use Rattle.replies.proofs.ReadBack.{bound_kind, certify_kind, search_kind}
+use Rattle.replies.proofs.Accepted.{empty_refused, refusal_refused}
 use Rattle.requests.specs.Answer.{Answer, answered, declined, operated, certified, saved, requested, line_answer}
 use Rattle.requests.proofs.LineCases.{line_cases}
 use Rattle.saving.proofs.Together.{save_kind}
 use Rattle.service.specs.Answer.{answer}
 use Rattle.service.specs.Calls.{exchange}
 use Rattle.service.proofs.AnswerCases.{fixed_fit, answer_cases}
-use Rattle.claims.specs.Ledger.{Ledger, accepted, by_kind, changed, fed}
+use Rattle.claims.specs.Ledger.{Ledger, by_kind, changed, fed}
 use Rattle.claims.specs.Claims.{outside, malformed, BoundClaim, Claim, shown_kind, never_outside, AtCall}
-use Rattle.claims.proofs.ByKind.{by_kind_lem}
+use Rattle.claims.proofs.ByKind.{by_kind_lem, kind_accepted}
 use Rattle.claims.proofs.Found.{ceiling_holds, moved_holds, known_plan, known_low, ended_least}
 use Rattle.claims.proofs.Keeps.{Keeps, open_in, bound_low, total_most, entry_most, scaled_most, held-total_most}
 use Rattle.claims.proofs.Kept.{load_keeps, judged_keeps, add-scaled, add_keeps}
 use Rattle.claims.proofs.Lines.{at_refused, at_accepted, other_refusal, empty_shows, bound_claim, round_claim, ceiling_claim, Right, search_claim}
-use Rattle.claims.proofs.Accepted.{empty_refused, refusal_refused, kind_accepted}
 use Rattle.claims.proofs.SaveClaims.{save_claim}
 use Rattle.claims.proofs.RoundClaims.{round_done, round_keeps, round_settled}
 

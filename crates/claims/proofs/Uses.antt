@@ -1,7 +1,8 @@
--- What follows from each part of demand 3's statement (specs/Claims.antt), on document 01's J and its session, for a round on a branch line, and with forbidden entries on D and the clique: what the replies there say, and wrong replies that the statement excludes. Each law
--- has the statement as its premise, not the service, so a part that said less would leave its law here without a proof.
+-- What follows from each part of demand 3's statement (specs/Claims.antt), on document 01's J and its session, and for a round on a branch line: what the replies there say, and wrong replies that the
+-- statement excludes. Each law has the statement as its premise, not the service, so a part that said less would leave its law here without a proof. With forbidden entries, and at three parts a point,
+-- such laws stand in UsesForbidden.
 use Rattle.std.specs.Prelude.{Result, Ok, Err}
-use mathlib.Core.Path.{◌≡◌, refl, subst}
+use mathlib.Core.Path.{◌≡◌, refl, sym, ap, subst}
 use mathlib.Core.Bool.{true, false, cond, ◌&&◌}
 use mathlib.Core.List.{List, [], ◌∷◌}
 use Prim.Native.Nat.{ℕ, zero, suc, ◌<◌, ◌≤◌}
@@ -10,6 +11,7 @@ use native.Mathlib.Omega.{arith}
 use lib.Dec.{eqb}
 use lib.IntN.{ℤ}
 use lib.ListN.{length, take}
+use borrow.Author.Tests.{not-true}
 use Rattle.theory.specs.Sum.{sum}
 use Rattle.theory.specs.Lists.{list_from}
 use Rattle.theory.specs.Range.{pass}
@@ -17,8 +19,8 @@ use Rattle.theory.proofs.Range.{not_both}
 use Rattle.refusals.specs.declared.Refusal.{Refusal}
 use Rattle.refusals.specs.declared.Refusal.TheVariants.{Fields, NoKind}
 use Rattle.refusals.specs.Verdicts.{first_of}
-use Rattle.tables.specs.Block.{loaded_choice_place, held_choice_place, loaded_entry_place, held_entry_place, at, trains, scale, pairs, constant, size, first, second, loaded_choice, loaded_entry}
-use Rattle.tables.specs.WellFormed.{is_open, fresh_block}
+use Rattle.tables.specs.Block.{trains, scale, pairs, constant, size, first, second, loaded_choice, loaded_entry}
+use Rattle.tables.specs.WellFormed.{fresh_block}
 use Rattle.tables.specs.Numbers.{is_cost, permits, paid}
 use Rattle.tables.specs.Plans.{Open, Branches, LeastOf, choice_total, pair_total, total, held_total}
 use Rattle.bounds.specs.Bounds.{bound_of}
@@ -40,19 +42,26 @@ use Rattle.decoding.specs.Numbers.{entries_of, numbers_of}
 use Rattle.decoding.specs.Clauses.{clauses_of}
 use Rattle.kinds.specs.Lines.{study_line}
 use Rattle.reader.specs.Reading.{kind_line, line_of}
-use Rattle.replies.specs.Shown.{bound_shown}
+use Rattle.search.specs.declared.answer.Found.{Found}
+use Rattle.search.specs.Walk.{searched}
+use Rattle.search.specs.Answer.{shown, search_answer}
+use Rattle.search.specs.Stops.{Sooner, searched_on}
+use Rattle.replies.specs.Shown.{accepted, bound_shown}
 use Rattle.requests.specs.Answer.{line_answer}
 use Rattle.service.specs.Answer.{min_buffer, answer}
-use Rattle.service.specs.Calls.{Exchange, exchange}
+use Rattle.service.specs.Calls.{Call, Exchange, exchange, last_block, exchanges}
 use Rattle.service.proofs.Calls.{answered_line}
-use Rattle.claims.specs.Ledger.{Ledger, accepted, numbers_ledger, empty_ledger, fed, ledger_of, cost_of, has_load}
+use Rattle.claims.specs.Ledger.{Ledger, numbers_ledger, empty_ledger, fed, ledger_of, cost_of, has_load}
 use Rattle.claims.specs.Claims.{PlanOf, DeclinedAs, scaled_cost, start_costs, BoundClaim, AtLine, AtCall, EachCall, AfterList, Claimed}
+use Rattle.claims.specs.Declined.{RefusedDeclines}
+use Rattle.claims.specs.Rounds.{RoundRaises}
+use Rattle.claims.specs.Stops.{SearchesSooner}
 use Rattle.claims.specs.Seen.{Seen, Chained, seen_blocks, seen_exchanges}
 use Rattle.claims.proofs.ByKind.{line_answered, line_claim, shown_claim}
 use Rattle.claims.proofs.Seen.{seen_demand}
 
 -- a line and its reply, to be computed: whoever opens this name opens each definition on the way from characters to the ledger's costs
-unfoldable told : String → String → Exchange
+unfoldable pub told : String → String → Exchange
 unfolding codes digit byte_at field list_from pair_at entries_of numbers_of permits paid sum choice_total pair_total total accepted new_kind fed ledger_of has_load
 told l r = exchange (codes l) (codes r)
 
@@ -105,6 +114,11 @@ j_open =
 too_high : {e : Exchange} → BoundClaim j e → bound_shown e.reply ≡ 3 → ⊥
 unfolding told load j plan
 too_high c e = let h : _ ≤ 2 = c.bound (plan 0 1) plan_01 in omega (arith, e)
+
+-- by a bound of 2 no plan costs less
+says_2 : {e : Exchange} → BoundClaim j e → bound_shown e.reply ≡ 2 → (x : ℕ → ℕ) → PlanOf j x → 2 ≤ cost_of j x
+unfolding told load j
+says_2 c e x p = omega (arith, c.bound x p, e)
 
 -- a branch line of two trains, two parts a point, at which tightening finds nothing: the plans 00, 01, 10 and 11 cost 1, 2, 1 and 1
 unfoldable branch_load : String
@@ -204,50 +218,6 @@ ups_leave =
           → AtMost (plus (ups.row k a) (ups.column k c)) (plus (plus (as_fraction ((start_costs j).pair k a c)) (downs.row k a)) (downs.column k c)))
           (λ p q. leaves_entry a c p q) k h p q;
     }
-
--- ---- forbidden entries
-
--- 'the three-train two-choice clique of source document 000': two trains never take the same
-unfoldable clique_load : String
-clique_load = "01030001020202000000000000000000000000000000000000030001FFFFFF000000000000FFFFFF0002FFFFFF000000000000FFFFFF0102FFFFFF000000000000FFFFFF"
-
-unfoldable clique : Ledger
-unfolding clique_load codes
-clique = numbers_ledger (numbers_of (codes clique_load))
-
--- of three choices out of two, two are the same
-clique_choices : (a b c : ℕ) → a < 2 → b < 2 → c < 2
-    → clique.shape.entry_open 0 a b ≡ true → clique.shape.entry_open 1 a c ≡ true → clique.shape.entry_open 2 b c ≡ true → ⊥
-unfolding told clique_load clique
-clique_choices zero zero c h i k p q r = not_both p refl
-clique_choices (suc zero) (suc zero) c h i k p q r = not_both p refl
-clique_choices zero (suc zero) zero h i k p q r = not_both q refl
-clique_choices zero (suc zero) (suc zero) h i k p q r = not_both r refl
-clique_choices (suc zero) zero zero h i k p q r = not_both r refl
-clique_choices (suc zero) zero (suc zero) h i k p q r = not_both q refl
-clique_choices (suc (suc a)) b c h i k p q r = omega arith
-clique_choices zero (suc (suc b)) c h i k p q r = omega arith
-clique_choices (suc zero) (suc (suc b)) c h i k p q r = omega arith
-clique_choices zero (suc zero) (suc (suc c)) h i k p q r = omega arith
-clique_choices (suc zero) zero (suc (suc c)) h i k p q r = omega arith
-
-clique_no_plan : (x : ℕ → ℕ) → PlanOf clique x → ⊥
-unfolding told clique_load clique
-clique_no_plan x p =
-    clique_choices (x 0) (x 1) (x 2) (p.below 0 (omega arith)) (p.below 1 (omega arith)) (p.below 2 (omega arith)) (p.entries 0 (omega arith)) (p.entries 1 (omega arith)) (p.entries 2 (omega arith))
-
--- so every rival gives every plan its cost, a constant of 1 too
-dear : Rival
-dear = record { gain = as_fraction 1; loss = as_fraction 0; choice = λ i a. as_fraction 0; pair = λ k a c. as_fraction 0 }
-
--- 'defeats the wider claim': halves on all choices and on all permitted entries are a certificate with W = 2 and E = 0
-clique_wider : ((r : Rival) → IsRival clique.shape (scaled_cost clique) r → ConstantAtMost 2 0 r) → ⊥
-unfolding dear IsRival ConstantAtMost AtMost times plus as_fraction
-clique_wider claim = let h : 2 ≤ 0 = claim dear (λ x p. absurd (clique_no_plan x p)) in omega arith
-
--- D is J with choice 1 of train 0 forbidden
-unfoldable d_load : String
-d_load = "010200010202000002FFFFFF000000000000010001000001000000000003000002"
 
 -- one clause: train 0 takes its choice 0 or train 1 does, else 5 points
 unfoldable one_clause : String
@@ -350,28 +320,6 @@ module _ {b : List ℤ} where
   unfolding told load j plan
   without_on_j a = (line_claim a Search refl).none refl (plan 0 1) plan_01
 
--- ---- replies to lines on the clique
-
-module _ {b : List ℤ} where
-  -- 02 with a cost, and with a choice
-  without_cost : AtLine clique b (told "06" "860200000004000000000002FFFFFF") → ⊥
-  unfolding told
-  without_cost a = not_both refl ((line_claim a Search refl).blank refl).0
-
-  without_plan : AtLine clique b (told "06" "860200000004FFFFFFFFFFFFFFFF00") → ⊥
-  unfolding told clique_load clique
-  without_plan a = let h : ◌≡◌ {A = ℕ} 0 255 = ((line_claim a Search refl).blank refl).1 2 (omega arith) in omega arith
-
-  -- 02: there is no plan
-  clique_without : AtLine clique b (told "06" "86020000000AFFFFFFFFFFFFFFFFFF") → (x : ℕ → ℕ) → PlanOf clique x → ⊥
-  unfolding told
-  clique_without a = (line_claim a Search refl).none refl
-
-  -- the certificate of halves: no lifts and moves that leave no permitted entry below 0 raise the constant
-  clique_ceiling : AtLine clique b (told "05" "85010000000000000000000002") → (up down : Amounts) → Leaves clique.shape (start_costs clique) up down → LiftsAtMost clique.shape 2 0 up down
-  unfolding told
-  clique_ceiling a = (line_claim a Certify refl).moved_ceiling
-
 -- ---- replies to a round of the branch line
 
 module _ {b : List ℤ} where
@@ -392,6 +340,11 @@ module _ {b : List ℤ} where
   low_constant : AtLine branch b (told "08" "88000000000001000000000001") → ⊥
   unfolding told branch_load branch
   low_constant a = let h : ◌≡◌ {A = ℕ} 1 2 = ((line_claim a Round refl).settled branch_open branch_branches).0 in omega arith
+
+  -- a saved line of one part a point
+  saved_scale : AtLine branch b (told "07" "010200010202000001000000000000000001010001000000000000000001000000") → ⊥
+  unfolding told branch_load branch
+  saved_scale a = let h : ◌≡◌ {A = ℕ} 1 2 = (line_claim a Save refl).gives.scale_same in omega arith
 
 module _ (g : Ledger) (b : List ℤ) where
   -- E = W × c0, but 00; and 01, but E above it
@@ -420,7 +373,7 @@ module _ (g : Ledger) (b : List ℤ) where
   unfolding told DeclinedAs
   no_malformed l a = a.never-malformed (refl, refl)
 
--- ---- document 01's session
+-- ---- document 01's session, its search with the count that document 02, change 6, leaves it
 
 unfoldable session : List Exchange
 unfolding told load
@@ -428,7 +381,7 @@ session =
     told load "81000000000000000000000000"
     ∷ told "04" "84000000000002000000000002"
     ∷ told "05000001000001000000000000000001000000000001000000000000" "85010000000000000002000001"
-    ∷ told "060000000A" "8601000000040000000000020001"
+    ∷ told "060000000A" "8601000000030000000000020001"
     ∷ []
 
 -- a list has a block for each line
@@ -440,15 +393,15 @@ module _ {b₀ b₁ b₂ b₃ b : List ℤ} (d : Claimed (b₀ ∷ b₁ ∷ b₂
   -- what the tightening, the certificate and the search show
   tightened_bound : (x : ℕ → ℕ) → PlanOf j x → 2 ≤ cost_of j x
   unfolding told load j session EachCall
-  tightened_bound = (shown_claim (d.each.1.0.line refl) Tighten refl).bound
+  tightened_bound = says_2 (shown_claim (d.each.1.0.line refl) Tighten refl refl) refl
 
   certified-ceiling : (r : Rival) → IsRival j.shape (scaled_cost j) r → ConstantAtMost 1 2 r
   unfolding told load j session EachCall
-  certified-ceiling = (shown_claim (d.each.1.1.0.line refl) Certify refl).ceiling j_open
+  certified-ceiling = (shown_claim (d.each.1.1.0.line refl) Certify refl refl).ceiling j_open
 
   last_call : (x : ℕ → ℕ) → PlanOf j x → 2 ≤ cost_of j x
   unfolding told load j session EachCall
-  last_call = (shown_claim (d.each.1.1.1.0.line refl) Search refl).least refl
+  last_call = (shown_claim (d.each.1.1.1.0.line refl) Search refl refl).least refl
 
   -- the block that is left
   after : AfterList j b
@@ -481,44 +434,6 @@ module _ {b₀ b₁ b₂ b₃ b : List ℤ} (d : Claimed (b₀ ∷ b₁ ∷ b₂
   unfolding told load j plan
   j_bound = after.bound (plan 0 1) plan_01
 
--- ---- lists with forbidden entries
-
--- D is loaded, and 5 points are added to its forbidden choice
-unfoldable d_session : List Exchange
-unfolding told d_load
-d_session = told d_load "81000000000000000000000000" ∷ told "020001000005" "82000000000000000000000000" ∷ []
-
--- the choice is forbidden still, in H and in T, and costs nothing
-d_forbidden : {b₀ b₁ b : List ℤ} → Claimed (b₀ ∷ b₁ ∷ []) d_session b
-    → (is_open (at b (loaded_choice_place 0 1)) ≡ false) × (is_open (at b (held_choice_place 0 1)) ≡ false) × (loaded_choice b 0 1 ≡ 0)
-unfolding told d_load d_session
-d_forbidden {b = b} c =
-    let s = (c.after refl).same in
-    let n : trains b ≡ 2 = s.shape_same.trains_same in
-    let e : size b 0 ≡ 2 = s.shape_same.sizes_same 0 (omega arith) in
-    (s.shape_same.choices_open_same 0 1 (omega arith) (omega arith), s.held_choices_open 0 1 (omega arith) (omega arith), s.choices_same 0 1 (omega arith) (omega arith))
-
--- the clique is loaded
-unfoldable clique_session : List Exchange
-unfolding told clique_load
-clique_session = told clique_load "81000000000000000000000000" ∷ []
-
--- trains 0 and 1 may not both take choice 0
-clique_forbidden : {b₀ b : List ℤ} → Claimed (b₀ ∷ []) clique_session b → (is_open (at b (loaded_entry_place 0 0 0)) ≡ false) × (is_open (at b (held_entry_place 0 0 0)) ≡ false)
-unfolding told clique_load clique_session
-clique_forbidden {b = b} c =
-    let s = (c.after refl).same in
-    let e = s.shape_same in
-    let n : trains b ≡ 3 = e.trains_same in
-    let m : pairs b ≡ 3 = e.pairs_same in
-    let f : first b 0 ≡ 0 = e.firsts_same 0 (omega arith) in
-    let g : second b 0 ≡ 1 = e.seconds_same 0 (omega arith) in
-    let u : size b 0 ≡ 2 = e.sizes_same 0 (omega arith) in
-    let v : size b 1 ≡ 2 = e.sizes_same 1 (omega arith) in
-    let p : 0 < size b (first b 0) = rw f (omega arith) in
-    let q : 0 < size b (second b 0) = rw g (omega arith) in
-    (e.entries_open_same 0 0 0 (omega arith) p q, s.held_entries_open 0 0 0 (omega arith) p q)
-
 -- a call on the block that a list left is answered by its line: never with 16
 next_line_lem : {bs : List (List ℤ)} {es : List Exchange} {b : List ℤ} → Claimed bs es b → (l buffer : List ℕ) → min_buffer ≤ length buffer → answer l b buffer ≡ line_answer l b (length buffer)
 next_line_lem {b = b} d l buffer h = answered_line l b buffer h d.right
@@ -529,4 +444,44 @@ next_line_lem {b = b} d l buffer h = answered_line l b buffer h d.right
 seen_bound : (s t : Seen) → Chained fresh_block (s ∷ t ∷ []) → seen_exchanges (s ∷ t ∷ []) ≡ take 2 session → (x : ℕ → ℕ) → PlanOf j x → 2 ≤ cost_of j x
 unfolding told load j session EachCall seen_blocks
 seen_bound s t c e = let d : EachCall empty_ledger (s.block ∷ t.block ∷ []) (take 2 session) = subst (EachCall empty_ledger (s.block ∷ t.block ∷ [])) e (seen_demand (s ∷ t ∷ []) c).each in
-    (shown_claim (d.1.0.line refl) Tighten refl).bound
+    says_2 (shown_claim (d.1.0.line refl) Tighten refl refl) refl
+
+-- ---- what is said of searches, of declined calls and of rounds beside demand 3
+
+-- after J and its tightening a search knows the plan that document 01's walk knows, by no more tries, and has ended where that has; and where its best does not cost the bound its answer is that walk's
+module _ (sooner : SearchesSooner) (calls : List Call) (e : exchanges fresh_block calls ≡ take 2 session) (budget : ℕ) where
+  abbrev here : List ℤ
+  here = last_block fresh_block calls
+
+  abbrev old : Found
+  old = shown (scale here) (searched_on here budget)
+
+  sooner_there : Sooner (searched here budget) (searched_on here budget)
+  unfolding told load session
+  sooner_there = sooner calls (subst (λ (es : List Exchange). has_load es ≡ true) (sym e) refl) budget
+
+  same_plan : (search_answer here budget).best ≡ old.best
+  unfolding search_answer
+  same_plan = let s = sooner_there in rw (s.found, s.best, s.plan) refl
+
+  no_more_tries : (search_answer here budget).count ≤ old.count
+  unfolding search_answer
+  no_more_tries = sooner_there.tries
+
+  ends_too : old.ended ≡ true → (search_answer here budget).ended ≡ true
+  unfolding search_answer
+  ends_too y = rw (sooner_there.ends (not-true (searched_on here budget).spent y)) refl
+
+  unmet_alike : (searched here budget).met ≡ false → search_answer here budget ≡ old
+  unfolding search_answer
+  unmet_alike n = ap (shown (scale here)) (sooner_there.equal n)
+
+-- a call that is answered FF0C leaves its block
+declined_12 : RefusedDeclines → (l : List ℕ) (b : List ℤ) (buffer : List ℕ) → (answer l b buffer).reply ≡ (told "" "FF0C").reply → (answer l b buffer).block ≡ b
+unfolding told
+declined_12 declines l b buffer e = (declines l b buffer (rw e refl)).block
+
+-- a round never takes from a constant of 2
+round_from_2 : RoundRaises → (b : List ℤ) (buffer : List ℕ) → constant b ≡ 2 → 2 ≤ constant (answer (codes "08") b buffer).block
+unfolding told
+round_from_2 raises b buffer e = let h : constant b ≤ constant (answer (codes "08") b buffer).block = raises (codes "08") b buffer refl in omega (arith, h, e)

@@ -1,5 +1,5 @@
 -- Demand 3 of document 01, as one claim about a whole list of calls from a fresh block. Nothing else stands in this file; `demand` in proofs/Demand.antt proves it. What follows from each
--- part of it, so that it cannot be said more weakly unseen, stands in proofs/Uses.antt; the name of the law there is in brackets.
+-- part of it, so that it cannot be said more weakly unseen, stands in proofs/Uses.antt and proofs/UsesForbidden.antt; the name of the law there is in brackets.
 use Rattle.std.specs.Prelude.{◌≡◌, Bool, true, false, List, [], ◌∷◌, ℕ, ◌*◌, ◌-◌, ◌<◌, ◌≤◌, ◌^◌, eqb, ℤ, Ok}
 use Rattle.tables.specs.Block.{held_choice_place, held_entry_place, at, trains, scale, pairs, constant, size, first, second, loaded_choice, loaded_entry}
 use Rattle.tables.specs.WellFormed.{is_open, well_formed, fresh_block}
@@ -19,9 +19,9 @@ use Rattle.decoding.specs.Numbers.{numbers_of}
 use Rattle.decoding.specs.Clauses.{clauses_of}
 use Rattle.reader.specs.Reading.{line_of}
 use Rattle.replies.specs.Replies.{choice_width, refusal_byte, reply_kind, flag}
-use Rattle.replies.specs.Shown.{kind_shown, number_shown, constant_shown, bound_shown, flag_shown, weighted_shown, full_weight_shown, says_ended, says_ended_without, cost_shown, plan_shown, shows_plan}
+use Rattle.replies.specs.Shown.{kind_shown, accepted, number_shown, constant_shown, bound_shown, flag_shown, weighted_shown, full_weight_shown, says_ended, says_ended_without, cost_shown, plan_shown, shows_plan}
 use Rattle.service.specs.Calls.{Call, Exchange, last_block, blocks, exchanges}
-use Rattle.claims.specs.Ledger.{Ledger, accepted, numbers_ledger, by_kind, fed, ledger_of, empty_ledger, cost_of, has_load}
+use Rattle.claims.specs.Ledger.{Ledger, numbers_ledger, by_kind, fed, ledger_of, empty_ledger, cost_of, has_load}
 
 -- a plan of a ledger
 abbrev pub PlanOf : Ledger → (ℕ → ℕ) → Type 0
@@ -57,18 +57,18 @@ reaches b reply = eqb (weighted_shown reply) (full_weight_shown reply * constant
 
 -- 'Kinds 01 to 04: .. c0 in parts (6), bound in points (6)'
 pub record BoundClaim (g : Ledger) (e : Exchange) : Type 0 where
-  -- 'Each bound that a reply shows beside c0 was, at its own line, at most every plan's cost' (`tightened_bound`, `high_bound`)
+  -- 'Each bound that a reply shows beside c0 was, at its own line, at most every plan's cost' (`tightened_bound`, `high_bound`, `scaled_bound`)
   pub bound : (x : ℕ → ℕ) → PlanOf g x → bound_shown e.reply ≤ cost_of g x
 
 -- 'Certify: .. 01 if reached else 00, E (8), W (3)', the call having had the block b
 pub record CeilingClaim (g : Ledger) (b : List ℤ) (e : Exchange) : Type 0 where
   -- 'The ceiling is E/W parts': W is above 0 (`no_full_weight`)
   pub full_weight : 0 < full_weight_shown e.reply
-  -- 'W × the constant of every rival is at most E', where nothing is forbidden: 'Without forbidden entries it reads as before' (`certified-ceiling`, `low_ceiling`). With forbidden entries it fails
+  -- 'W × the constant of every rival is at most E', where nothing is forbidden: 'Without forbidden entries it reads as before' (`certified-ceiling`, `low_ceiling`, `low_rival`). With forbidden entries it fails
   -- (`clique_wider`)
   pub ceiling : Open g.shape → (r : Rival) → IsRival g.shape (scaled_cost g) r → ConstantAtMost (full_weight_shown e.reply) (weighted_shown e.reply) r
   -- 'Start from s × the ledger's costs at that line and constant 0, and make any set of lifts and moves together, fractions allowed, that leaves no permitted entry below 0: the ceiling is at least the
-  -- constant that results', on every study (`low_moved`, `clique_ceiling`)
+  -- constant that results', on every study (`low_moved`, `clique_ceiling`, `low_quarters`)
   pub moved_ceiling : (up down : Amounts) → Leaves g.shape (start_costs g) up down → LiftsAtMost g.shape (full_weight_shown e.reply) (weighted_shown e.reply) up down
   -- '01 if reached else 00' (`not_reached`, `reached_above`)
   pub reached : flag_shown e.reply ≡ flag (reaches b e.reply)
@@ -77,9 +77,9 @@ pub record CeilingClaim (g : Ledger) (b : List ℤ) (e : Exchange) : Type 0 wher
 pub record SearchClaim (g : Ledger) (e : Exchange) : Type 0 where
   -- 'every search reply that shows a plan, as each that says ended (01) does' (`ended_without_plan`)
   pub ended : says_ended e.reply ≡ true → shows_plan e.reply ≡ true
-  -- 'the cost shown is, at that line, that plan's cost' (`absent_choice`, `other_cost`)
+  -- 'the cost shown is, at that line, that plan's cost' (`absent_choice`, `other_cost`, `forbidden_choice`, `forbidden_entry`, `cost_in_parts`)
   pub shown : shows_plan e.reply ≡ true → PlanOf g (plan_shown e.reply) × (cost_shown e.reply ≡ cost_of g (plan_shown e.reply))
-  -- 'If it says ended, every other plan costs, at that line, at least as much' (`worse_plan`)
+  -- 'If it says ended, every other plan costs, at that line, at least as much' (`worse_plan`, `scaled_worse`)
   pub least : says_ended e.reply ≡ true → (x : ℕ → ℕ) → PlanOf g x → cost_shown e.reply ≤ cost_of g x
   -- change 5: 'A search that ends without a plan says 02, with cost and plan FF' (`without_cost`, `without_plan`)
   pub blank : says_ended_without e.reply ≡ true → (shows_plan e.reply ≡ false) × ((i : ℕ) → i < g.shape.trains → plan_shown e.reply i ≡ 256 ^ choice_width - 1)
@@ -97,7 +97,8 @@ pub record SameLedger (h g : Ledger) : Type 0 where
 pub record SaveClaim (g : Ledger) (e : Exchange) : Type 0 where
   -- that every block takes (`long_save`)
   pub taken : (b : List ℤ) → line_of e.reply b ≡ Asked (load_request e.reply)
-  -- read as a load line, its reply gives the ledger's n, s, sizes, pairs and costs at that line (`other_save`)
+  -- read as a load line, its reply gives the ledger's n, s, sizes, pairs and costs at that line (`other_save`, `saved_scale`),
+  -- and what is forbidden (`saved_choice_opened`, `saved_choice_closed`, `saved_entry_opened`, `saved_entry_closed`)
   pub gives : SameLedger (numbers_ledger (numbers_of e.reply)) g
 
 -- document 02, change 4: 'The reply is 88 with constant and bound'
@@ -193,9 +194,9 @@ pub record SameStudy (g : Ledger) (b : List ℤ) : Type 0 where
 
 pub record AfterList (g : Ledger) (b : List ℤ) : Type 0 where
   pub same : SameStudy g b
-  -- 'every plan's total by c0 and T is s × its cost' (`j-total`); change 5: 'Totals are kept for plans'
+  -- 'every plan's total by c0 and T is s × its cost' (`j-total`, `scaled_total`); change 5: 'Totals are kept for plans'
   pub totals : (x : ℕ → ℕ) → PlanOf g x → held_total b x ≡ scaled_cost g x
-  -- 'the published bound is at most every plan's cost' (`j_bound`)
+  -- 'the published bound is at most every plan's cost' (`j_bound`, `held_bound`)
   pub bound : (x : ℕ → ℕ) → PlanOf g x → bound_of b ≤ cost_of g x
 
 -- of calls that had the blocks bs, whose lines with their replies are es, and which left the block b: 'one claim about the whole list'

@@ -5,7 +5,8 @@ use Rattle.tables.specs.WellFormed.{is_open}
 use Rattle.service.specs.Answer.{answer}
 use Rattle.claims.specs.Ledger.{by_kind, loads}
 
--- 'Forbidden entries stay so under every line that doesn't load, additions included': at every place of H and T, accepted or declined, and what is permitted stays so too
+-- 'Forbidden entries stay so under every line that doesn't load, additions included': at every place of H and T, accepted or declined, and what is permitted stays so too (`stays_forbidden`,
+-- `sum_forbidden` and `stays_permitted` in proofs/UsesForbidden.antt)
 abbrev pub ForbiddenStays : Type 0
 ForbiddenStays =
     (l : List ℕ) (b : List ℤ) (buffer : List ℕ) → by_kind loads false l ≡ false

@@ -1,6 +1,6 @@
 -- Document 01, 'Lists and the ledger': what the ledger knows of a list of lines, each with its reply.
 use Rattle.refusals.specs.declared.Refusal.{Refusal}
-use Rattle.std.specs.Prelude.{Bool, true, false, cond, ◌&&◌, not, List, [], ◌∷◌, ℕ, ◌+◌, ltb, eqb, length, Result, Ok, Err}
+use Rattle.std.specs.Prelude.{Bool, true, false, cond, ◌&&◌, List, [], ◌∷◌, ℕ, ◌+◌, eqb, Result, Ok, Err}
 use Rattle.tables.specs.Numbers.{Numbers, numbers, numbers_shape, numbers_costs}
 use Rattle.tables.specs.Plans.{Shape, Costs, total}
 use Rattle.lines.specs.declared.kind.Kind.{Kind}
@@ -9,13 +9,8 @@ use Rattle.lines.specs.Kinds.{new_kind}
 use Rattle.lines.specs.Layout.{kind_of, add_train, add_choice, add_points}
 use Rattle.decoding.specs.Numbers.{numbers_of}
 use Rattle.decoding.specs.Clauses.{clause_numbers_of}
-use Rattle.replies.specs.Replies.{refusal_byte}
-use Rattle.replies.specs.Shown.{kind_shown}
+use Rattle.replies.specs.Shown.{accepted}
 use Rattle.service.specs.Calls.{Exchange}
-
--- 'A line is accepted if its reply isn't empty and doesn't begin with FF'
-unfoldable pub accepted : List ℕ → Bool
-accepted reply = ltb 0 (length reply) && not (eqb (kind_shown reply) refusal_byte)
 
 -- what the ledger knows: n, sizes and pairs, and which choices and pairs of choices are forbidden; s; costs in points, with no constant, and 0 for what is forbidden
 pub record Ledger : Type 0 where

@@ -1,4 +1,5 @@
--- The rule: demand 3, of calls by the definition of the answer and of calls as a caller saw them, a saved line and a load, what a round leaves, what stays forbidden, and which searches end sooner. There is no code.
+-- The rule: demand 3, of calls by the definition of the answer and of calls as a caller saw them, a saved line and a load, what a round leaves, what stays forbidden, which searches end sooner, and what a
+-- declined call leaves. There is no code.
 pub mod Ledger
 pub mod Claims
 pub mod Seen
@@ -6,3 +7,4 @@ pub mod Saves
 pub mod Rounds
 pub mod Forbidden
 pub mod Stops
+pub mod Declined

@@ -5,10 +5,10 @@ use Rattle.tables.specs.Plans.{Open, Branches, LeastOf, shape_of, held_total}
 use Rattle.lines.specs.declared.kind.Kind.TheVariants.{Round}
 use Rattle.lines.specs.Kinds.{new_kind}
 use Rattle.lines.specs.Layout.{kind_of}
+use Rattle.replies.specs.Shown.{accepted}
 use Rattle.service.specs.Answer.{answer}
-use Rattle.claims.specs.Ledger.{accepted}
 
--- the constant never falls by a round, accepted or declined
+-- the constant never falls by a round, accepted or declined (`round_from_2` in proofs/Uses.antt)
 abbrev pub RoundRaises : Type 0
 RoundRaises = (l : List ℕ) (b : List ℤ) (buffer : List ℕ) → new_kind (kind_of l) ≡ Ok Round → constant b ≤ constant (answer l b buffer).block
 

@@ -8,9 +8,9 @@ use Rattle.frames.specs.Frames.{Framed}
 use Rattle.lines.specs.declared.kind.Kind.TheVariants.{Load, Save}
 use Rattle.lines.specs.Kinds.{kind_number, new_kind}
 use Rattle.lines.specs.Layout.{kind_width, kind_of}
+use Rattle.replies.specs.Shown.{accepted}
 use Rattle.requests.specs.Answer.{answered}
 use Rattle.service.specs.Answer.{min_buffer, answer}
-use Rattle.claims.specs.Ledger.{accepted}
 
 -- 'Kind 07, with no fields'
 unfoldable pub save_line : List ℕ

@@ -8,6 +8,7 @@ use Rattle.service.specs.Calls.{Call, last_block, exchanges}
 use Rattle.claims.specs.Ledger.{has_load}
 
 -- 'Old answers that change after lines from fresh: ended searches that met the bound early count fewer tries, and some spent ones end', and no others: beside the walk that no bound ends, at every budget
+-- (`same_plan`, `no_more_tries`, `ends_too` and `unmet_alike` in proofs/Uses.antt)
 abbrev pub SearchesSooner : Type 0
 SearchesSooner =
     (calls : List Call) → has_load (exchanges fresh_block calls) ≡ true

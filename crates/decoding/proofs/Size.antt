@@ -21,7 +21,7 @@ use Rattle.frames.proofs.RunDigits.{run_length, run_digits_lem}
 use Rattle.lines.specs.declared.kind.Kind.TheVariants.{Load}
 use Rattle.lines.specs.Kinds.{kind_number}
 use Rattle.lines.specs.Layout.{kind_width, count_width, scale_width, cost_width, pair_width}
-use Rattle.lines.specs.Text.{pair_digits, pairs_digits, load_digits, load_bytes}
+use Rattle.lines.specs.Text.{pair_digits, pairs_digits, load_digits, line_bytes, load_bytes}
 use Rattle.lines.proofs.Pairs.{entries_at, pair_cost, pair_of, pairs_of, pair_run_length}
 
 module _ (x : Numbers) where
@@ -96,9 +96,13 @@ module _ {x : Numbers} (r : InRange x) where
       each : (k : ℕ) → k < length x.firsts → entries_at x k ≤ entries_of_pair
       each k h = let b = r.below k h in mul-le-mul (r.sizes (nth x.firsts k) (omega arith)).1 (r.sizes (nth x.seconds k) b.1).1
 
-  -- 'over 19,834 characters' is none of these lines
+  -- none of these lines is longer than the one that every limit allows
+  pub load_longest : length (load_digits x) ≤ 2 * line_bytes max_trains (max_trains * max_choices) max_pairs (max_pairs * entries_of_pair)
+  load_longest = omega (arith, load_length, choices_most, entries_most, r.trains.1, r.pairs.0)
+
+  -- 'over 19,834 characters' is none of them
   pub load_most : length (load_digits x) ≤ max_characters
-  load_most = omega (arith, load_length, choices_most, entries_most, r.trains.1, r.pairs.0)
+  load_most = omega (arith, load_longest)
 
   -- a load line of numbers in range is a frame
   pub load_framed : Framed (load_digits x) (load_bytes x)

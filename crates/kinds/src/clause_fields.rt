@@ -1,7 +1,6 @@
 // Document 02, change 7, 'Kind 09': the fields of a study written as clauses, judged from left to right.
 // That k is a clause is asked of each call: the loops count it.
 ghost use Rattle.std.specs.Prelude.{◌≡◌, ◌≤◌, nat_abs};
-ghost use Rattle.refusals.specs.Verdicts.{Fine};
 ghost use Rattle.tables.specs.LineLimits.{max_clauses};
 ghost use Rattle.frames.specs.Digits.{bytes};
 ghost use Rattle.lines.specs.Asked.{request_if};

@@ -41,7 +41,7 @@ const SIZE: Field = Field {
 };
 
 // A cost of a load, at byte `at`.
-pub fn cost_field(at: usize) -> Field
+fn cost_field(at: usize) -> Field
     ensures { result ≡ cost_field at }
 {
     Field {

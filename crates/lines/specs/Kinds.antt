@@ -1,5 +1,5 @@
 -- Document 01, 'Lines': the kinds of lines, their numbers, and which of them need a loaded study.
-use Rattle.std.specs.Prelude.{Bool, true, false, cond, ℕ, eqb, Result, Ok, Err}
+use Rattle.std.specs.Prelude.{Bool, true, false, cond, List, [], ◌∷◌, ℕ, eqb, Result, Ok, Err}
 use Rattle.refusals.specs.declared.Refusal.{Refusal}
 use Rattle.refusals.specs.declared.Refusal.TheVariants.{NoKind}
 use Rattle.lines.specs.declared.kind.Kind.{Kind}
@@ -23,18 +23,28 @@ kind_number kind.Clauses = 9
 abbrev pub kind_if : Kind → ℕ → Result Kind Refusal → Result Kind Refusal
 kind_if k n other = cond (eqb n (kind_number k)) (Ok k) other
 
+-- the kinds that there are
+abbrev pub all_kinds : List Kind
+all_kinds =
+    kind.Load
+    ∷ kind.Add
+    ∷ kind.Shift
+    ∷ kind.Tighten
+    ∷ kind.Certify
+    ∷ kind.Search
+    ∷ kind.Save
+    ∷ kind.Round
+    ∷ kind.Clauses
+    ∷ []
+
+-- the kind of these that has this number, or 3 where none has
+abbrev pub kind_among : List Kind → ℕ → Result Kind Refusal
+kind_among [] n = Err NoKind
+kind_among (k ∷ kinds) n = kind_if k n (kind_among kinds n)
+
 -- 'The first byte is the kind': the kind of this number, or 3 where there is none
 unfoldable pub new_kind : ℕ → Result Kind Refusal
-new_kind n =
-    kind_if kind.Load n
-    (kind_if kind.Add n
-    (kind_if kind.Shift n
-    (kind_if kind.Tighten n
-    (kind_if kind.Certify n
-    (kind_if kind.Search n
-    (kind_if kind.Save n
-    (kind_if kind.Round n
-    (kind_if kind.Clauses n (Err NoKind)))))))))
+new_kind n = kind_among all_kinds n
 
 -- 4: 'kinds 02-06 on a fresh block', 07 and 08; 09 loads
 abbrev pub needs_study : Kind → Bool

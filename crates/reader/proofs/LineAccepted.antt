@@ -17,7 +17,7 @@ use Rattle.frames.specs.Frames.{new_frame, Framed}
 use Rattle.frames.proofs.Bytes.{Whole, framed_whole, new_framed}
 use Rattle.frames.proofs.Widths.{field_below}
 use Rattle.lines.specs.declared.kind.Kind.{Kind}
-use Rattle.lines.specs.declared.kind.Kind.TheVariants.{Load, Add, Shift, Tighten, Certify, Search, Save, Round, Clauses}
+use Rattle.lines.specs.declared.kind.Kind.TheVariants.{Load}
 use Rattle.lines.specs.declared.request.Request.{Request}
 use Rattle.lines.specs.declared.request.Line.{Line}
 use Rattle.lines.specs.declared.request.Line.TheVariants.{Asked, Refused}
@@ -76,14 +76,7 @@ module _ (l : List ℕ) (b : List ℤ) (q : Request) where
 -- the request of each kind is of that kind
 pub request_kind_lem : (k : Kind) (l : List ℕ) (b : List ℤ) → request_kind (kind_request k l b) ≡ k
 request_kind_lem Load l b = refl
-request_kind_lem Add l b = refl
-request_kind_lem Shift l b = refl
-request_kind_lem Tighten l b = refl
-request_kind_lem Certify l b = refl
-request_kind_lem Search l b = refl
-request_kind_lem Save l b = refl
-request_kind_lem Round l b = refl
-request_kind_lem Clauses l b = refl
+request_kind_lem k l b = refl
 
 -- a request that a line makes of a block, by the request's kind: its fields are the line's, they were judged fine, and a kind that needs a study found one
 abbrev pub Makes : List ℕ → List ℤ → Request → Type 0

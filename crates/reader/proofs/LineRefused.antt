@@ -2,7 +2,7 @@
 -- of fields and ends, in turn; each of these declines under 5 or under the number that its rule names.
 use mathlib.Core.Path.{◌≡◌, refl, subst}
 use mathlib.Core.Bool.{Bool, true, false, cond, ◌&&◌, ◌||◌, not}
-use mathlib.Core.List.{List}
+use mathlib.Core.List.{List, [], ◌∷◌}
 use Prim.Native.Nat.{ℕ, zero, suc}
 use lib.Dec.{leb, ltb, eqb}
 use lib.IntN.{ℤ}
@@ -25,7 +25,7 @@ use Rattle.lines.specs.declared.field.Field.{Field}
 use Rattle.lines.specs.declared.request.Request.{Request}
 use Rattle.lines.specs.declared.request.Line.{Line}
 use Rattle.lines.specs.declared.request.Line.TheVariants.{Asked, Refused}
-use Rattle.lines.specs.Kinds.{kind_number, kind_if, new_kind, needs_study}
+use Rattle.lines.specs.Kinds.{kind_number, kind_if, all_kinds, kind_among, new_kind, needs_study}
 use Rattle.lines.specs.Layout.{kind_width, kind_of, number_in, further, trains_field, scale_field, size_field, pair_count_field, add_train, points_field, lift_field, move_field, full_weight_field, weight_field, budget_field, load_trains, load_pairs, choice_count, entry_count, pair_at, end_of, below, choice_field, entry_field, add_train_field, add_choice_field, clause_count_field, clause_count, clause_at, clause_weight_field, clause_first, clause_second}
 use Rattle.lines.specs.Verdicts.{obeys, field_verdict, run_verdict, end_verdict, runs_verdict, last_verdict}
 use Rattle.kinds.specs.Load.{pair_ordered, pair_verdict, head_verdict, rest_verdict, load_verdict}
@@ -147,18 +147,13 @@ own_kind_if k n other o = go (eqb n (kind_number k))
     go true = tt
     go false = o
 
+own_among : (kinds : List Kind) (n : ℕ) → OwnKind (kind_among kinds n)
+own_among [] n = refl
+own_among (k ∷ kinds) n = own_kind_if k n (kind_among kinds n) (own_among kinds n)
+
 own_new_kind : (n : ℕ) → OwnKind (new_kind n)
 unfolding new_kind
-own_new_kind n =
-    own_kind_if Load n _
-    (own_kind_if Add n _
-    (own_kind_if Shift n _
-    (own_kind_if Tighten n _
-    (own_kind_if Certify n _
-    (own_kind_if Search n _
-    (own_kind_if Save n _
-    (own_kind_if Round n _
-    (own_kind_if Clauses n _ refl))))))))
+own_new_kind n = own_among all_kinds n
 
 -- a line that is declined, if it is, under one of these numbers
 abbrev OwnLine : Line → Type 0

@@ -3,3 +3,4 @@ pub mod Writing
 pub mod ReplyFields
 pub mod Lengths
 pub mod ReadBack
+pub mod Accepted

@@ -7,7 +7,7 @@ use native.Mathlib.Omega.{arith}
 use lib.Dec.{eqb}
 use lib.IntN.{ℤ}
 use Rattle.refusals.specs.declared.Refusal.{Refusal}
-use Rattle.refusals.specs.declared.Refusal.TheVariants.{Characters, TooLong, NoKind, FreshBlock, Fields, Range, Cost, Pair, Absent, CostAbove, Move, PartsOutside, FullWeight, Sums, Budget, Malformed, ForbiddenWeight, Literal, PairsAbove}
+use Rattle.refusals.specs.declared.Refusal.TheVariants.{Characters}
 use Rattle.refusals.specs.Refusals.{refusal_number}
 use Rattle.tables.specs.Block.{constant}
 use Rattle.bounds.specs.Bounds.{bound_of}
@@ -45,24 +45,7 @@ ending_without false found = refl
 
 refusal_low : (r : Refusal) → refusal_number r < 256
 refusal_low Characters = omega arith
-refusal_low TooLong = omega arith
-refusal_low NoKind = omega arith
-refusal_low FreshBlock = omega arith
-refusal_low Fields = omega arith
-refusal_low Range = omega arith
-refusal_low Cost = omega arith
-refusal_low Pair = omega arith
-refusal_low Absent = omega arith
-refusal_low CostAbove = omega arith
-refusal_low Move = omega arith
-refusal_low PartsOutside = omega arith
-refusal_low FullWeight = omega arith
-refusal_low Sums = omega arith
-refusal_low Budget = omega arith
-refusal_low Malformed = omega arith
-refusal_low ForbiddenWeight = omega arith
-refusal_low Literal = omega arith
-refusal_low PairsAbove = omega arith
+refusal_low r = omega arith
 
 module _ (r : Refusal) where
   pub refusal_kind : kind_shown (refusal_reply r) ≡ refusal_byte

@@ -111,6 +111,10 @@ search_reply n f = fields_digits search_widths (search_numbers f) (plan_digits n
 
 -- ---- how long replies are
 
--- the most characters of a reply: a search's, of as many trains as there may be
+-- the most characters of a fixed reply: a search's, of as many trains as there may be
 abbrev pub longest_fixed : ℕ
 longest_fixed = 2 * (bytes_in search_widths + choice_width * max_trains)
+
+-- the most characters of any reply: a saved line's, of a study that has all that there may be
+abbrev pub longest_reply : ℕ
+longest_reply = 19834

@@ -1,8 +1,8 @@
 -- Document 01, 'Replies', the other way round: the figures that a reply shows, read back from its characters by the widths of its fields.
-use Rattle.std.specs.Prelude.{Bool, not, List, ℕ, ◌+◌, ◌*◌, ◌-◌, ◌^◌, eqb, take}
+use Rattle.std.specs.Prelude.{Bool, not, ◌&&◌, List, ℕ, ◌+◌, ◌*◌, ◌-◌, ◌^◌, ltb, eqb, length, take}
 use Rattle.theory.specs.Lists.{nth}
 use Rattle.frames.specs.Fields.{field}
-use Rattle.replies.specs.Replies.{bytes_in, figure_width, choice_width, refusal_widths, bound_widths, certify_widths, search_widths}
+use Rattle.replies.specs.Replies.{bytes_in, figure_width, choice_width, refusal_widths, refusal_byte, bound_widths, certify_widths, search_widths}
 
 -- field k of a reply with fields of these widths
 abbrev pub shown_in : List ℕ → ℕ → List ℕ → ℕ
@@ -15,6 +15,10 @@ shown_behind widths width i reply = field reply (bytes_in widths + width * i) wi
 -- the first byte, whatever follows it
 abbrev pub kind_shown : List ℕ → ℕ
 kind_shown reply = field reply 0 1
+
+-- 'A line is accepted if its reply isn't empty and doesn't begin with FF'
+unfoldable pub accepted : List ℕ → Bool
+accepted reply = ltb 0 (length reply) && not (eqb (kind_shown reply) refusal_byte)
 
 -- 'FF and the number as one byte'
 abbrev pub number_shown : List ℕ → ℕ

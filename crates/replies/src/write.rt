@@ -1,6 +1,6 @@
 // Document 01, 'Replies': 'digits as lines are, two characters a byte', written into a lent buffer.
 // Writers take the whole buffer and a place in it, since the caller lends it across the C interface and the next writer goes on in it.
-ghost use Rattle.std.specs.Prelude.{◌≡◌, [], ◌++◌, ◌+◌, ◌*◌, ◌<◌, ◌≤◌, map, length, take, drop};
+ghost use Rattle.std.specs.Prelude.{◌≡◌, [], ◌++◌, ◌+◌, ◌*◌, ◌≤◌, map, length, take, drop};
 ghost use Rattle.frames.specs.Digits.{byte_digits};
 ghost use Rattle.frames.specs.Fields.{field_digits};
 ghost use Rattle.replies.specs.Replies.{fields_digits, bytes_in};

@@ -1,4 +1,4 @@
--- No reply to a request is empty or longer than the longest line, and none but a saved line is longer than the longest of the fixed replies.
+-- No reply to a request is empty or longer than the longest reply, and none but a saved line is longer than the longest of the fixed replies.
 use Rattle.std.specs.Prelude.{Result, Ok, Err}
 use Rattle.refusals.specs.declared.Refusal.{Refusal}
 use Rattle.certificates.specs.declared.certify.Ceiling.{Ceiling}
@@ -21,7 +21,6 @@ use Rattle.shift.specs.Shift.{shift_outcome}
 use Rattle.tighten.specs.Tighten.{tighten_outcome}
 use Rattle.directional.specs.Directional.{direct_outcome}
 use Rattle.certificates.specs.Certify.{weights_of, certificate}
-use Rattle.frames.specs.Frames.{max_characters}
 use Rattle.frames.specs.Runs.{run_of, signed_run_of}
 use Rattle.lines.specs.declared.kind.Kind.{Kind}
 use Rattle.lines.specs.declared.kind.Kind.TheVariants as kind
@@ -32,9 +31,9 @@ use Rattle.lines.specs.Layout.{move_width, weight_width}
 use Rattle.decoding.specs.Numbers.{numbers_of}
 use Rattle.decoding.specs.Clauses.{clauses_of}
 use Rattle.search.specs.Answer.{search_answer}
-use Rattle.replies.specs.Replies.{longest_fixed}
+use Rattle.replies.specs.Replies.{longest_fixed, longest_reply}
 use Rattle.replies.proofs.Lengths.{bound_length, certify_length, search_length, refusal_length}
-use Rattle.saving.proofs.Together.{save_length, save_framed}
+use Rattle.saving.proofs.Together.{save_length, save_most}
 use Rattle.requests.specs.Answer.{operated, certified, requested, fixed_reply}
 use Rattle.requests.specs.Wrote.{Asks}
 use Rattle.requests.proofs.Ready.{study_ready}
@@ -67,19 +66,11 @@ requested_short l b room Save e a = absurd (not_both e refl)
 requested_short l b room Round e a = operated_short kind.Round (direct_outcome b) b _
 requested_short l b room (Clauses q) e a = operated_short kind.Clauses (clauses_outcome q.trains q.scale (clauses_of l)) _ _
 
--- a saved line is a frame
-saved_most : (l : List ℕ) (b : List ℤ) → Study b → UpTo max_characters (requested Save l b).reply
+saved_most : (l : List ℕ) (b : List ℤ) → Study b → UpTo longest_reply (requested Save l b).reply
 unfolding requested
-saved_most l b s = (omega (arith, save_length s), (save_framed s).short)
+saved_most l b s = (omega (arith, save_length s), save_most s)
 
 -- every reply
-pub requested_most : (l : List ℕ) (b : List ℤ) (room : ℕ) (q : Request) → Asks l b q room → UpTo max_characters (requested q l b).reply
-requested_most l b room (Load q) a = omega (arith, requested_short l b room (Load q) refl a)
-requested_most l b room (Add q) a = omega (arith, requested_short l b room (Add q) refl a)
-requested_most l b room (Shift q) a = omega (arith, requested_short l b room (Shift q) refl a)
-requested_most l b room Tighten a = omega (arith, requested_short l b room Tighten refl a)
-requested_most l b room (Certify q) a = omega (arith, requested_short l b room (Certify q) refl a)
-requested_most l b room (Search q) a = omega (arith, requested_short l b room (Search q) refl a)
+pub requested_most : (l : List ℕ) (b : List ℤ) (room : ℕ) (q : Request) → Asks l b q room → UpTo longest_reply (requested q l b).reply
 requested_most l b room Save a = saved_most l b (study_ready a refl)
-requested_most l b room Round a = omega (arith, requested_short l b room Round refl a)
-requested_most l b room (Clauses q) a = omega (arith, requested_short l b room (Clauses q) refl a)
+requested_most l b room q a = omega (arith, requested_short l b room q refl a)

@@ -3,3 +3,4 @@ pub mod Outcomes
 pub mod Ready
 pub mod Lengths
 pub mod LineCases
+pub mod Declined

@@ -18,7 +18,7 @@ use Rattle.lines.specs.declared.request.Line.{Line}
 use Rattle.lines.specs.declared.request.Line.TheVariants.{Asked, Refused}
 use Rattle.lines.specs.Kinds.{request_kind}
 use Rattle.reader.specs.Reading.{line_of}
-use Rattle.replies.specs.Replies.{longest_fixed}
+use Rattle.replies.specs.Replies.{longest_fixed, longest_reply}
 use Rattle.replies.proofs.Lengths.{refusal_length}
 use Rattle.requests.specs.Answer.{Answer, answered, declined, requested, fixed_reply, fitted, line_answer}
 use Rattle.requests.specs.Wrote.{Asks}
@@ -71,10 +71,10 @@ module _ (l : List ℕ) (b : List ℤ) (room : ℕ) where
               (λ (k : room < length (requested q l b).reply). subst P (sym (late_line q e k)) (late q (asks q e) k))
               (λ n. let k : length (requested q l b).reply ≤ room = omega arith in subst P (sym (short_line q e k)) (asked q (asks q e) k))
 
-      -- no reply is longer than the longest line
-      pub line_short : length (line_answer l b room).reply ≤ max_characters
+      -- no reply is longer than the longest one
+      pub line_short : length (line_answer l b room).reply ≤ longest_reply
       line_short =
-          line_cases (λ a. length a.reply ≤ max_characters) (λ r e. omega (arith, refusal_length r)) (λ q a k. (requested_most l b room q a).1) (λ q a k. omega arith)
+          line_cases (λ a. length a.reply ≤ longest_reply) (λ r e. omega (arith, refusal_length r)) (λ q a k. (requested_most l b room q a).1) (λ q a k. omega arith)
 
       -- and none but those whose length is not fixed is longer than the longest fixed one
       pub line_short_fixed : FixedLine l b → length (line_answer l b room).reply ≤ longest_fixed
@@ -82,12 +82,12 @@ module _ (l : List ℕ) (b : List ℤ) (room : ℕ) where
           line_cases (λ a. length a.reply ≤ longest_fixed) (λ r e. omega (arith, refusal_length r)) (λ q a k. (requested_short l b room q (f q a.asked) a).1) (λ q a k. omega arith)
 
       -- in a room that holds the longest reply every line has one: 17 is not given there
-      pub line_given : max_characters ≤ room → 0 < length (line_answer l b room).reply
+      pub line_given : longest_reply ≤ room → 0 < length (line_answer l b room).reply
       line_given m =
           line_cases (λ a. 0 < length a.reply) (λ r e. omega (arith, refusal_length r)) (λ q a k. (requested_most l b room q a).0) (λ q a k. absurd (omega (arith, requested_most l b room q a)))
 
 -- rooms for the longest reply are all alike
-pub room_apart : (l : List ℕ) (b : List ℤ) (u v : ℕ) → max_characters ≤ u → max_characters ≤ v → well_formed b ≡ true → line_answer l b u ≡ line_answer l b v
+pub room_apart : (l : List ℕ) (b : List ℤ) (u v : ℕ) → longest_reply ≤ u → longest_reply ≤ v → well_formed b ≡ true → line_answer l b u ≡ line_answer l b v
 room_apart l b u v g h right =
     line_cases l b u (omega arith) right (λ a. a ≡ line_answer l b v)
     (λ r e. sym (refused_line l b v (omega arith) r e))

@@ -1,33 +1,44 @@
--- Which block a request leaves: an operation by its outcome, and a certificate the one that was there.
+-- Which block a request leaves: an operation by its outcome, and a kind that leaves the block the one that was there.
 use Rattle.std.specs.Prelude.{Result, Ok, Err}
 use Rattle.refusals.specs.declared.Refusal.{Refusal}
 use Rattle.certificates.specs.declared.certify.Ceiling.{Ceiling}
 use Rattle.certificates.specs.Certify.{weights_of, certificate}
 use Rattle.frames.specs.Runs.{run_of}
-use mathlib.Core.Path.{◌≡◌, refl, sym}
+use mathlib.Core.Path.{◌≡◌, refl}
+use mathlib.Core.Bool.{true}
 use mathlib.Core.List.{List}
 use Prim.Native.Nat.{ℕ}
 use lib.IntN.{ℤ}
-use Rattle.refusals.specs.Verdicts.{Verdict, settled}
+use Rattle.theory.proofs.Range.{not_both}
+use Rattle.refusals.specs.Verdicts.{Verdict, Fine, settled}
 use Rattle.lines.specs.declared.kind.Kind.{Kind}
-use Rattle.lines.specs.declared.request.Certify.{Certify}
-use Rattle.lines.specs.declared.request.Request.TheVariants.{Certify as certify_of}
+use Rattle.lines.specs.declared.request.Request.{Request}
+use Rattle.lines.specs.declared.request.Request.TheVariants.{Certify, Search, Save}
+use Rattle.lines.specs.Kinds.{request_kind}
 use Rattle.lines.specs.Layout.{weight_width}
-use Rattle.replies.specs.Wrote.{Wrote}
-use Rattle.requests.specs.Answer.{operated, certified, requested}
-use Rattle.requests.specs.Wrote.{Answers}
+use Rattle.replies.specs.Shown.{accepted}
+use Rattle.replies.proofs.Accepted.{refusal_refused}
+use Rattle.requests.specs.Answer.{operated, certified, requested, leaves_block}
 
 -- the block that an operation leaves
 pub operated_leaves : (kind : Kind) (o : Verdict) (old new : List ℤ) → (operated kind o old new).block ≡ settled o old new
 operated_leaves kind (Ok _) old new = refl
 operated_leaves kind (Err r) old new = refl
 
+-- an operation whose reply is accepted is done
+pub operated_done : (kind : Kind) (o : Verdict) (old new : List ℤ) → accepted (operated kind o old new).reply ≡ true → o ≡ Fine
+operated_done kind (Ok _) old new y = refl
+operated_done kind (Err r) old new y = absurd (not_both y (refusal_refused r))
+
 -- a certificate leaves the block, declined or not
-pub certified_leaves : (full_weight : ℕ) (c : Result Ceiling Refusal) (b : List ℤ) → (certified full_weight c b).block ≡ b
+certified_leaves : (full_weight : ℕ) (c : Result Ceiling Refusal) (b : List ℤ) → (certified full_weight c b).block ≡ b
 certified_leaves full_weight (Err r) b = refl
 certified_leaves full_weight (Ok c) b = refl
 
-pub certify_answers : (l : List ℕ) (b : List ℤ) (q : Certify) {buffer after : List ℕ} {n : ℕ} → Wrote buffer (requested (certify_of q) l b).reply after n
-    → Answers (requested (certify_of q) l b) buffer b after n
+-- and so does every request of a kind that leaves the block
+pub requested_leaves : (q : Request) (l : List ℕ) (b : List ℤ) → leaves_block (request_kind q) ≡ true → (requested q l b).block ≡ b
 unfolding requested
-certify_answers l b q w = record { block = sym (certified_leaves q.full (certificate b (weights_of b q.full (run_of l q.weights.at weight_width q.weights.count))) b); reply = w }
+requested_leaves (Certify q) l b e = certified_leaves q.full (certificate b (weights_of b q.full (run_of l q.weights.at weight_width q.weights.count))) b
+requested_leaves (Search q) l b e = refl
+requested_leaves Save l b e = refl
+requested_leaves q l b e = absurd (not_both e refl)

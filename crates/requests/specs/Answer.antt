@@ -90,6 +90,18 @@ fixed_reply kind.Save = false
 fixed_reply kind.Round = true
 fixed_reply kind.Clauses = true
 
+-- the kinds that leave the block as it was, accepted or declined: 'Certify and search change nothing in the block', nor does a save
+abbrev pub leaves_block : Kind → Bool
+leaves_block kind.Load = false
+leaves_block kind.Add = false
+leaves_block kind.Shift = false
+leaves_block kind.Tighten = false
+leaves_block kind.Certify = true
+leaves_block kind.Search = true
+leaves_block kind.Save = true
+leaves_block kind.Round = false
+leaves_block kind.Clauses = false
+
 -- 17: a reply that is longer than the room for it 'hands back an empty part and writes nothing', and leaves the block
 abbrev pub fitted : ℕ → List ℤ → Answer → Answer
 fitted room b a = cond (ltb room (length a.reply)) (answered b []) a

@@ -9,7 +9,7 @@ use native.Mathlib.Omega.{arith}
 use lib.IntN.{ℤ}
 use lib.ListN.{length, get_or, set, length-set}
 use lib.Seq.{get_or-set_same, get_or-set_other}
-use Rattle.tables.specs.Block.{max_trains, max_choices, max_pairs, trains, pairs, size, first, second}
+use Rattle.tables.specs.Block.{max_choices, max_pairs, trains, pairs, size, first, second}
 use Rattle.tables.specs.Block as block
 use Rattle.tables.specs.WellFormed.{Study}
 use Rattle.tables.proofs.Study.{trains_range, pairs_range, size_range, first-below-trains, second-below-trains}

@@ -1,5 +1,5 @@
 // What the choices of later trains come to so far, in rows of sums: a pair's row is the row before it of the same train, with the pair's costs.
-ghost use Rattle.std.specs.Prelude.{◌≡◌, ℕ, ◌+◌, ◌<◌, ◌^◌, get_or};
+ghost use Rattle.std.specs.Prelude.{ℕ, ◌+◌, ◌<◌, ◌^◌, get_or};
 ghost use Rattle.units.specs.Units.{number_of_parts};
 ghost use Rattle.tables.specs.Block.{max_choices};
 ghost use Rattle.rows.specs.Sums.{Carry, CarriedTo, Sums};

@@ -26,7 +26,8 @@ use Rattle.decoding.specs.Numbers.{numbers_of}
 use Rattle.decoding.proofs.LoadRange.{load_in_range}
 use Rattle.decoding.proofs.Again.{load_again}
 use Rattle.decoding.proofs.Written.{load_kind, load_judged, numbers_back}
-use Rattle.decoding.proofs.Size.{load_length, load_framed}
+use Rattle.decoding.proofs.Size.{load_length, load_longest, load_framed}
+use Rattle.replies.specs.Replies.{longest_reply}
 
 -- straight after an accepted line, a save gives that very line
 pub save_after_load : (l : List ℕ) → framed l ≡ true → kind_of l ≡ kind_number Load → load_verdict l ≡ Fine → load_digits (saved_numbers (loaded_block (numbers_of l))) ≡ l
@@ -38,6 +39,10 @@ module _ {b : List ℤ} (s : Study b) where
   -- how many characters it has
   pub save_length : length (load_digits (saved_numbers b)) ≡ 2 * line_bytes (trains b) (choice_count (shape_of b)) (pairs b) (entry_count (shape_of b))
   save_length = omega (arith, load_length (saved_range s), saved-trains b, saved_choices b, saved-pairs b, saved_entries b)
+
+  -- it is no longer than the longest reply
+  pub save_most : length (load_digits (saved_numbers b)) ≤ longest_reply
+  save_most = omega (arith, load_longest (saved_range s))
 
   -- it is a frame of at most 19,834 characters
   pub save_framed : Framed (load_digits (saved_numbers b)) (load_bytes (saved_numbers b))

@@ -1,7 +1,8 @@
 -- Document 01, '06 search', with document 02, change 5, 'a try that brings a forbidden entry in counts and is dropped', and change 6, 'A search should end when a new best plan's cost equals the published bound': the walk over plans, of a problem's shape and costs and a test of totals.
 -- A block's walk is that of its shape and its held costs, and the test is that of its published bound.
-use Rattle.std.specs.Prelude.{◌≡◌, Bool, true, false, cond, not, ◌&&◌, ◌||◌, List, ℕ, zero, suc, ◌+◌, ◌*◌, ◌<◌, leb, eqb, ℤ, length, set, replicate}
+use Rattle.std.specs.Prelude.{◌≡◌, Bool, true, false, cond, not, ◌&&◌, ◌||◌, List, ℕ, zero, suc, ◌+◌, ◌<◌, leb, eqb, ℤ, length, set, replicate}
 use Rattle.theory.specs.Sum.{sum}
+use Rattle.theory.specs.Product.{sum_of_products}
 use Rattle.theory.specs.Range.{all}
 use Rattle.units.specs.declared.Parts.{Parts}
 use Rattle.units.specs.Units.{the_parts, number_of_parts, rounded_up}
@@ -134,14 +135,9 @@ never total = false
 
 -- ---- how many tries there are
 
--- the product of k sizes from t on
-unfoldable pub product : (ℕ → ℕ) → ℕ → ℕ → ℕ
-product f t zero = 1
-product f t (suc k) = f t * product f (t + 1) k
-
 -- the tries of a walk over `left` trains from t on, by their sizes, with none dropped: a train's choices are tried once for each plan of the trains before it
 unfoldable pub tries_from : (ℕ → ℕ) → ℕ → ℕ → ℕ
-tries_from f left t = sum left (λ i. product f t (i + 1))
+tries_from f left t = sum_of_products f t left
 
 -- those of the whole walk
 abbrev pub all_tries : Shape → ℕ

@@ -12,6 +12,9 @@ use rows::{sums, table};
 use tables::block::Block;
 use units::Parts;
 
+// What is left where no try is: one more than the tries.
+const NO_TRY: u64 = 1;
+
 // The best plan so far.
 #[derive(Clone, Copy)]
 pub struct Best {
@@ -110,7 +113,7 @@ impl<'a> Search<'a> {
         requires { Tried self.old t a (number_of_parts total) left }
         ensures { TriedTo self.old t a (number_of_parts total) left result self.new }
     {
-        if left <= 1 {
+        if left <= NO_TRY {
             return 0;
         }
         let rest = left - 1;

@@ -10,12 +10,13 @@ use borrow.Author.Tests.{le-ltb}
 use Rattle.refusals.specs.declared.Refusal.TheVariants.{Malformed}
 use Rattle.tables.specs.WellFormed.{well_formed}
 use Rattle.frames.specs.Frames.{max_characters}
+use Rattle.replies.specs.Replies.{longest_reply}
 use Rattle.requests.specs.Answer.{declined, line_answer}
 use Rattle.requests.proofs.LineCases.{room_apart, long_line}
 use Rattle.service.specs.Answer.{min_buffer, answer}
 
 -- buffers that hold the longest reply decide nothing
-pub buffer_apart : (l : List ℕ) (b : List ℤ) (u v : List ℕ) → max_characters ≤ length u → max_characters ≤ length v → answer l b u ≡ answer l b v
+pub buffer_apart : (l : List ℕ) (b : List ℤ) (u v : List ℕ) → longest_reply ≤ length u → longest_reply ≤ length v → answer l b u ≡ answer l b v
 unfolding answer
 buffer_apart l b u v p q = rw (le-ltb (length u) min_buffer (omega arith), le-ltb (length v) min_buffer (omega arith)) (go (well_formed b) refl)
   where

@@ -1,4 +1,4 @@
--- What a call answers, in the order of the tests: the buffer, the block, the line. No reply is longer than the longest line, and none but a saved line is longer than the smallest buffer.
+-- What a call answers, in the order of the tests: the buffer, the block, the line. No reply is longer than the longest one, and none but a saved line is longer than the smallest buffer.
 use mathlib.Core.Path.{◌≡◌, refl}
 use mathlib.Core.Bool.{true, false}
 use mathlib.Core.List.{List}
@@ -9,8 +9,7 @@ use lib.ListN.{length}
 use borrow.Author.Tests.{lt-ltb, le-ltb}
 use Rattle.refusals.specs.declared.Refusal.TheVariants.{Malformed}
 use Rattle.tables.specs.WellFormed.{well_formed}
-use Rattle.frames.specs.Frames.{max_characters}
-use Rattle.replies.specs.Replies.{refusal_reply}
+use Rattle.replies.specs.Replies.{refusal_reply, longest_reply}
 use Rattle.replies.specs.Wrote.{Wrote}
 use Rattle.replies.proofs.Writing.{wrote_none}
 use Rattle.replies.proofs.Lengths.{refusal_length}
@@ -37,13 +36,13 @@ module _ (l : List ℕ) (b : List ℤ) (d : List ℕ) where
     unfolding answer
     answered_line e = rw (le-ltb (length d) min_buffer h, e)
 
-  -- every reply fits a buffer for the longest line
-  pub reply_short : length (answer l b d).reply ≤ max_characters
+  -- every reply fits a buffer for the longest one
+  pub reply_short : length (answer l b d).reply ≤ longest_reply
   reply_short =
-      answer_cases l b d (λ a. length a.reply ≤ max_characters) (λ h. omega arith) (λ e. omega (arith, refusal_length Malformed)) (λ h e. line_short l b (length d) (fixed_fit d h) e)
+      answer_cases l b d (λ a. length a.reply ≤ longest_reply) (λ h. omega arith) (λ e. omega (arith, refusal_length Malformed)) (λ h e. line_short l b (length d) (fixed_fit d h) e)
 
   -- in a buffer that holds the longest reply every call has one: 17 is not given there
-  pub reply_given : max_characters ≤ length d → 0 < length (answer l b d).reply
+  pub reply_given : longest_reply ≤ length d → 0 < length (answer l b d).reply
   reply_given m =
       answer_cases l b d (λ a. 0 < length a.reply) (λ h. absurd (omega arith)) (λ e. omega (arith, refusal_length Malformed)) (λ h e. line_given l b (length d) (fixed_fit d h) e m)
 

@@ -2,7 +2,7 @@
 -- unless empty.' From the bytes of the whole input to the bytes of the whole output.
 use Rattle.std.specs.Prelude.{Bool, cond, List, [], ◌∷◌, ◌++◌, map, ℕ, eqb, ℤ, length, replicate}
 use Rattle.tables.specs.WellFormed.{fresh_block}
-use Rattle.frames.specs.Frames.{max_characters}
+use Rattle.replies.specs.Replies.{longest_reply}
 use Rattle.service.specs.Calls.{Call, Exchange, exchanges}
 
 -- 'line end': a line feed
@@ -32,7 +32,7 @@ input_lines input = lines_from [] input
 
 -- a buffer that holds the longest reply
 unfoldable pub reply_buffer : List ℕ
-reply_buffer = replicate max_characters 0
+reply_buffer = replicate longest_reply 0
 
 -- the call that a line makes; its buffer counts only by being large enough
 abbrev pub line_call : List ℕ → Call

@@ -4,7 +4,7 @@ use Prim.Native.Nat.{ℕ, ◌+◌, ◌*◌, ◌<◌, ◌≤◌}
 use native.Mathlib.Nat.{mul-le-mul}
 use native.Mathlib.Omega.{arith}
 use lib.IntN.{ℤ}
-use Rattle.theory.proofs.Sum.{sum_none, sum_more, sum_most, sum_part}
+use Rattle.theory.proofs.Sum.{sum_most, sum_part}
 use Rattle.tables.specs.Block.{max_trains, max_choices, max_pairs, entries_of_pair, trains, pairs, size}
 use Rattle.tables.specs.WellFormed.{Study}
 use Rattle.tables.specs.Plans.{Shape, shape_of}
@@ -57,5 +57,5 @@ module _ {b : List ℤ} (s : Study b) where
   pub weight_count_most : weight_count (shape_of b) ≤ max_trains * max_choices + max_pairs * entries_of_pair
   weight_count_most = omega (arith, choice_count_most, entry_count_most)
 
--- a loop's first and next turn, and the most that it counts
-pub ruleset counting = (sum_none, sum_more, trains_range, pairs_range, size_range, rows_range, columns_range, entries_range, choices_most, entries_most, moves_most)
+-- the most that is counted
+pub ruleset counting = (trains_range, pairs_range, size_range, rows_range, columns_range, entries_range, choices_most, entries_most, moves_most)

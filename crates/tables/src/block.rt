@@ -1,8 +1,8 @@
 // Document 01, 'State block': where everything stands in the block, its readers and its writers.
 // The bounds of i, k, a, a place and a stored number are each of one argument of one call: an index type would be made in each turn of a caller's loop, and read back for each place.
-ghost use Rattle.std.specs.Prelude.{◌≡◌, ◌+◌, ◌*◌, ◌<◌, ◌≤◌, ◌^◌, pos, length, set};
+ghost use Rattle.std.specs.Prelude.{◌≡◌, ◌+◌, ◌*◌, ◌<◌, ◌≤◌, ◌^◌, pos, set};
 ghost use Rattle.units.specs.Units.{number_of_points, number_of_parts, scale_min, scale_max};
-ghost use Rattle.tables.specs.Block.{block_length, entries_of_pair, max_trains, max_choices, max_pairs, trains_place, scale_place, pairs_place, size_place, first_place, second_place, choice_place, entry_place, at, figure, loaded_choice_place, held_choice_place, trains, scale, pairs, constant, size, first, second, loaded_choice, held_choice, loaded_entry, held_entry};
+ghost use Rattle.tables.specs.Block.{block_length, max_trains, max_choices, max_pairs, trains_place, scale_place, pairs_place, size_place, first_place, second_place, choice_place, entry_place, at, loaded_choice_place, held_choice_place, trains, scale, pairs, constant, size, first, second, loaded_choice, held_choice, loaded_entry};
 ghost use Rattle.tables.specs.WellFormed.{is_open};
 
 use crate::held_study::HeldStudy;

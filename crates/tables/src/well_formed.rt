@@ -1,5 +1,5 @@
 // Document 01, 'State block': whether a lent block is well formed. The tables are gone through row by row.
-ghost use Rattle.std.specs.Prelude.{◌≡◌, ◌↔◌, true, ◌+◌, ◌*◌, ◌<◌, ◌≤◌, IsSome, IfSome, length};
+ghost use Rattle.std.specs.Prelude.{◌≡◌, ◌↔◌, true, ◌+◌, ◌*◌, ◌<◌, ◌≤◌, IsSome, IfSome};
 ghost use Rattle.tables.specs.Block.{block_length, max_trains, max_choices, max_pairs, entries_of_pair, pairs};
 ghost use Rattle.tables.specs.WellFormed.{cost_to, places_right, mated, follows, pair_right, pairs_right, is_fresh, holds_study, well_formed};
 ghost use Rattle.tables.specs.Rows.{run_within, row_within, head_right, shape_right, choices_used, choices_within, entries_used, pair_within, entries_within};

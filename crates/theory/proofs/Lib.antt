@@ -1,6 +1,7 @@
 -- The laws of the crate, which callers cite: one file for each idea.
 pub mod Range
 pub mod Sum
+pub mod Product
 pub mod Whole
 pub mod Fold
 pub mod Turns

@@ -15,7 +15,6 @@ use Rattle.tables.proofs.Counting.{rows_range, columns_range}
 use Rattle.operations.specs.Saved.{row_costs}
 use Rattle.operations.proofs.Grown.{joined_next}
 use Rattle.numbers.proofs.Saved.{row_costs_length, row_list}
-use Rattle.numbers.proofs.read_pair.Goals.{In-loop-a}
 use Rattle.numbers.proofs.read_pair.Goals as goal
 
 pub loop-a-init : goal.loop-a-init

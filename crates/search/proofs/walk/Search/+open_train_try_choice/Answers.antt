@@ -55,11 +55,11 @@ open_train-returns t c =
       later = l.invariant.0;
     }
 
-pub try_choice-returns-then-left-le1 : goal.try_choice-returns-then-left-le1
-try_choice-returns-then-left-le1 t c =
+pub try_choice-returns-then-left-le-NO_TRY : goal.try_choice-returns-then-left-le-NO_TRY
+try_choice-returns-then-left-le-NO_TRY t c =
     let s = c.args.self.now in
     record {
-      walk = λ b budget p m. held_out b budget c.args.t c.args.a c.args.total.0 c.args.left s.best s.chosen m c.requires.going c.if-left-le1.true;
+      walk = λ b budget p m. held_out b budget c.args.t c.args.a c.args.total.0 c.args.left s.best s.chosen m c.requires.going c.if-left-le-NO_TRY.true;
       later = record { table = refl; fewer = omega arith; going = record { unmet = λ h. absurd (omega arith); low = c.requires.going.low }; kept = alike_refl _ _ _; steady = steady_refl _ _ };
     }
 
