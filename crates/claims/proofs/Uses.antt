@@ -57,7 +57,7 @@ use Rattle.claims.specs.Declined.{RefusedDeclines}
 use Rattle.claims.specs.Rounds.{RoundRaises}
 use Rattle.claims.specs.Stops.{SearchesSooner}
 use Rattle.claims.specs.Seen.{Seen, Chained, seen_blocks, seen_exchanges}
-use Rattle.claims.proofs.ByKind.{line_answered, line_claim, shown_claim}
+use Rattle.claims.proofs.ByKind.{line_answered, line_claim, own_claim}
 use Rattle.claims.proofs.Seen.{seen_demand}
 
 -- a line and its reply, to be computed: whoever opens this name opens each definition on the way from characters to the ledger's costs
@@ -393,15 +393,15 @@ module _ {b₀ b₁ b₂ b₃ b : List ℤ} (d : Claimed (b₀ ∷ b₁ ∷ b₂
   -- what the tightening, the certificate and the search show
   tightened_bound : (x : ℕ → ℕ) → PlanOf j x → 2 ≤ cost_of j x
   unfolding told load j session EachCall
-  tightened_bound = says_2 (shown_claim (d.each.1.0.line refl) Tighten refl refl) refl
+  tightened_bound = says_2 (own_claim (d.each.1.0.line refl) Tighten refl refl) refl
 
   certified-ceiling : (r : Rival) → IsRival j.shape (scaled_cost j) r → ConstantAtMost 1 2 r
   unfolding told load j session EachCall
-  certified-ceiling = (shown_claim (d.each.1.1.0.line refl) Certify refl refl).ceiling j_open
+  certified-ceiling = (own_claim (d.each.1.1.0.line refl) Certify refl refl).ceiling j_open
 
   last_call : (x : ℕ → ℕ) → PlanOf j x → 2 ≤ cost_of j x
   unfolding told load j session EachCall
-  last_call = (shown_claim (d.each.1.1.1.0.line refl) Search refl refl).least refl
+  last_call = (own_claim (d.each.1.1.1.0.line refl) Search refl refl).least refl
 
   -- the block that is left
   after : AfterList j b
@@ -444,7 +444,7 @@ next_line_lem {b = b} d l buffer h = answered_line l b buffer h d.right
 seen_bound : (s t : Seen) → Chained fresh_block (s ∷ t ∷ []) → seen_exchanges (s ∷ t ∷ []) ≡ take 2 session → (x : ℕ → ℕ) → PlanOf j x → 2 ≤ cost_of j x
 unfolding told load j session EachCall seen_blocks
 seen_bound s t c e = let d : EachCall empty_ledger (s.block ∷ t.block ∷ []) (take 2 session) = subst (EachCall empty_ledger (s.block ∷ t.block ∷ [])) e (seen_demand (s ∷ t ∷ []) c).each in
-    says_2 (shown_claim (d.1.0.line refl) Tighten refl refl) refl
+    says_2 (own_claim (d.1.0.line refl) Tighten refl refl) refl
 
 -- ---- what is said of searches, of declined calls and of rounds beside demand 3
 
