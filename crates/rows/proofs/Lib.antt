@@ -1,5 +1,6 @@
 -- The laws of the crate, which callers cite: one file for each idea.
 pub mod Walled
+pub mod Limits
 pub mod Written
 pub mod Laying
 pub mod Rows

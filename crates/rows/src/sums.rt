@@ -2,6 +2,8 @@
 ghost use Rattle.std.specs.Prelude.{ℕ, ◌+◌, ◌<◌, ◌^◌, get_or};
 ghost use Rattle.units.specs.Units.{number_of_parts};
 ghost use Rattle.tables.specs.Block.{max_choices};
+ghost use Rattle.tables.specs.Plans.{shape_of};
+ghost use Rattle.rows.specs.Walled.{walled_costs};
 ghost use Rattle.rows.specs.Sums.{Carry, CarriedTo, Sums};
 ghost use Rattle.rows.specs.Links.{row_count};
 ghost use Rattle.rows.specs.Table.{sum_at, Owned};
@@ -28,7 +30,7 @@ pub type Rows = [ByChoice; ROWS];
 // Lays the trains' own rows. They are laid in place, as the costs of a table are.
 #[tactic(auto, using(tables::proofs::Study::trains_range))]
 pub fn lay_own(study: HeldStudy<'_>, rows: &mut Rows)
-    ensures { Owned study.entry.numbers.now rows.new }
+    ensures { Owned (shape_of study.entry.numbers.now) (walled_costs study.entry.numbers.now) rows.new }
 {
     for j in 0..block::trains(study.numbers) {
         let from = block::choice_place(Block::HELD_CHOICES_FROM, j, 0);

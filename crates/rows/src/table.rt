@@ -1,7 +1,9 @@
 // The table of a search: what the walk reads of a study.
 ghost use Rattle.std.specs.Prelude.{◌≡◌, ◌+◌, ◌≤◌, ◌<◌, ℕ, get_or};
-ghost use Rattle.tables.specs.Block.{block_length, max_trains, max_choices, pairs, size};
-ghost use Rattle.rows.specs.Walled.{walled};
+ghost use Rattle.tables.specs.Block.{block_length, max_trains, max_choices, scale, pairs, size};
+ghost use Rattle.tables.specs.Plans.{shape_of};
+ghost use Rattle.bounds.specs.Bounds.{bound_of};
+ghost use Rattle.rows.specs.Walled.{walled, walled_costs};
 ghost use Rattle.rows.specs.Table.{CostsLaid, Laid};
 ghost use Rattle.rows.specs.Sums.{Sums};
 
@@ -46,8 +48,8 @@ impl<'a> Table<'a> {
     // The table of a study whose costs are laid.
     #[tactic(auto, using(tables::proofs::Study::scale_range))]
     pub fn new(study: HeldStudy<'_>, costs: &'a Costs) -> Table<'a>
-        requires { CostsLaid study.numbers.now (pairs study.numbers.now) costs.now }
-        ensures { Laid study.entry.numbers.now result }
+        requires { CostsLaid (shape_of study.numbers.now) (walled_costs study.numbers.now) (pairs study.numbers.now) costs.now }
+        ensures { Laid (shape_of study.entry.numbers.now) (walled_costs study.entry.numbers.now) (scale study.entry.numbers.now) (bound_of study.entry.numbers.now) result }
     {
         let b = study.numbers;
         let Links { ends, bases } = links::rows(study);
@@ -66,7 +68,7 @@ impl<'a> Table<'a> {
 
 // Lays the costs of the pairs. They are laid in place, since so long an array is copied where it is returned.
 pub fn lay_costs(study: HeldStudy<'_>, costs: &mut Costs)
-    ensures { CostsLaid study.entry.numbers.now (pairs study.entry.numbers.now) costs.new }
+    ensures { CostsLaid (shape_of study.entry.numbers.now) (walled_costs study.entry.numbers.now) (pairs study.entry.numbers.now) costs.new }
 {
     for k in 0..block::pairs(study.numbers) {
         lay_pair(study, k, costs);
@@ -97,8 +99,8 @@ pub(crate) fn walled_row(b: &Places, from: usize) -> ByChoice
 // Lays the costs of pair k: the rows that are used, one for each choice of its first train.
 #[tactic(auto, using(tables::proofs::Study::pairs_range, tables::proofs::Counting::rows_range))]
 fn lay_pair(study: HeldStudy<'_>, k: usize, costs: &mut Costs)
-    requires { (k < pairs study.numbers.now) × CostsLaid study.numbers.now k costs.old }
-    ensures { CostsLaid study.entry.numbers.now (k + 1) costs.new }
+    requires { (k < pairs study.numbers.now) × CostsLaid (shape_of study.numbers.now) (walled_costs study.numbers.now) k costs.old }
+    ensures { CostsLaid (shape_of study.entry.numbers.now) (walled_costs study.entry.numbers.now) (k + 1) costs.new }
 {
     for c in 0..counts::rows_of(study, k) {
         let from = block::entry_place(Block::HELD_ENTRIES_FROM, k, c, 0);

@@ -8,19 +8,17 @@ use native.Mathlib.Nat.{eq-or-lt_of_le}
 use native.Mathlib.Decide.{dec_lt}
 use native.Mathlib.Omega.{arith}
 use lib.Dec.{leb}
-use lib.IntN.{ℤ}
 use lib.ListN.{length, get_or, set, length-set}
 use lib.Seq.{get_or-set_same, get_or-set_other}
-use Rattle.tables.specs.Block.{max_trains, trains}
-use Rattle.tables.specs.WellFormed.{Study}
-use Rattle.tables.specs.Plans.{choices_of, Shape, Costs, held_costs}
-use Rattle.tables.proofs.Study.{trains_range}
+use Rattle.tables.specs.Block.{max_trains}
+use Rattle.tables.specs.Plans.{choices_of, Shape, Costs}
 use Rattle.rows.specs.Walled.{wall}
-use Rattle.search.specs.Walk.{Walk, barred, added, Decided, one_try, tried_from, choice_try, opened_train, at_bound}
+use Rattle.rows.specs.Limits.{Walkable}
+use Rattle.search.specs.Walk.{Walk, barred, added, Decided, one_try, tried_from, choice_try, opened_train}
+use Rattle.search.specs.Sought.{Sought, meets_at}
 use Rattle.search.specs.Held.{Alike, try_of}
 use Rattle.search.proofs.Barred.{barred_cong}
-use Rattle.search.proofs.Totals.{Walkable, added_cong, partial_cong}
-use Rattle.search.proofs.Studies.{study_walkable}
+use Rattle.search.proofs.Totals.{added_cong, partial_cong}
 
 -- lists that agree everywhere
 list_same : (x y : List ℕ) → length x ≡ length y → ((i : ℕ) → get_or x i 0 ≡ get_or y i 0) → x ≡ y
@@ -72,7 +70,7 @@ module _ {s : Shape} (o : Walkable s) (c : Costs) where
       let total = partial + added s c (choices_of (set y t a)) t in
       let bar = barred s (choices_of (set y t a)) t in
       ap₂ (λ (r : Bool) (z : ℕ). one_try budget r (partial + z) (next (partial + z) (set x t a)) v)
-      (barred_cong o.shaped (choices_of (set x t a)) (choices_of (set y t a)) t h)
+      (barred_cong o (choices_of (set x t a)) (choices_of (set y t a)) t h)
       (added_cong o c (choices_of (set x t a)) (choices_of (set y t a)) t h)
       ∙ (λ i. one_try budget bar total (λ u. n total u i) v)
 
@@ -93,14 +91,14 @@ module _ {s : Shape} (o : Walkable s) (c : Costs) where
       record {
         whole = sym p.same ∙ d.whole;
         below = λ i h. rw (← p.before i h) (d.below i h);
-        permitted = λ i h. barred_cong o.shaped (choices_of y) (choices_of x) i (λ j q. sym (p.before j (omega arith))) ∙ d.permitted i h;
+        permitted = λ i h. barred_cong o (choices_of y) (choices_of x) i (λ j q. sym (p.before j (omega arith))) ∙ d.permitted i h;
         total = d.total ∙ partial_cong o c (choices_of x) (choices_of y) t p.before;
       }
 
 -- in the terms of the code
-pub try_alike : {b : List ℤ} → Study b → (budget t a total : ℕ) (x y : List ℕ) → t < trains b → length x ≡ max_trains → Alike t (trains b) x y
-    → (w : Walk) → try_of b budget t total x a w ≡ try_of b budget t total y a w
+pub try_alike : (p : Sought) → Walkable p.shape → (budget t a total : ℕ) (x y : List ℕ) → t < p.shape.trains → length x ≡ max_trains → Alike t p.shape.trains x y
+    → (w : Walk) → try_of p budget t total x a w ≡ try_of p budget t total y a w
 unfolding try_of
-try_alike {b} s budget t a total x y h l p w =
-    let q = alike_next a h (omega (arith, l, trains_range s)) p in
-    λ i. one_try budget (leb wall total) total (λ u. opened_alike (study_walkable s) (held_costs b) (at_bound b) budget (trains b - (t + 1)) (t + 1) total (set x t a) (set y t a) (omega arith) (length-set x t a ∙ l) q u i) w
+try_alike p o budget t a total x y h l k w =
+    let q = alike_next a h (omega (arith, l, o.room)) k in
+    λ i. one_try budget (leb wall total) total (λ u. opened_alike o p.costs (meets_at p) budget (p.shape.trains - (t + 1)) (t + 1) total (set x t a) (set y t a) (omega arith) (length-set x t a ∙ l) q u i) w

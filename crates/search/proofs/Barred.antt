@@ -10,7 +10,7 @@ use borrow.Author.Tests.{eq-eqb, ne_eqb, not-false}
 use Rattle.theory.specs.Range.{all}
 use Rattle.theory.proofs.Range.{both_true, all_true, all_intro, all_cong}
 use Rattle.tables.specs.Plans.{Shape, IsPlan, Open}
-use Rattle.tables.proofs.Plans.{Shaped}
+use Rattle.rows.specs.Limits.{Walkable}
 use Rattle.search.specs.Walk.{entry_passes, barred}
 
 module _ (s : Shape) (x : ℕ → ℕ) (t : ℕ) where
@@ -35,7 +35,7 @@ module _ (s : Shape) (x : ℕ → ℕ) (t : ℕ) where
           (λ (e : s.second k ≡ t). rw (eq-eqb (s.second k) t e) (p.entries k h e))
           (λ n. rw (ne_eqb (s.second k) t n))
 
-module _ {s : Shape} (o : Shaped s) where
+module _ {s : Shape} (o : Walkable s) where
   -- pairs come before their second train
   pub barred_cong : (x y : ℕ → ℕ) (t : ℕ) → ((i : ℕ) → i < t + 1 → x i ≡ y i) → barred s x t ≡ barred s y t
   unfolding barred

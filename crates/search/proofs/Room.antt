@@ -12,17 +12,9 @@ use Rattle.theory.proofs.Sum.{sum_most}
 use Rattle.tables.specs.Block.{max_choices, max_pairs, max_parts}
 use Rattle.tables.specs.Plans.{Shape, Costs, choices_of}
 use Rattle.rows.specs.Walled.{wall}
+use Rattle.rows.specs.Limits.{Walkable, Limited}
 use Rattle.rows.proofs.Written.{written}
 use Rattle.search.specs.Walk.{pair_added, added, partial_total, Decided}
-use Rattle.search.proofs.Totals.{Walkable}
-
--- sizes and pairs are within the limits of a block, and no cost is above `most`
-pub record Limited (s : Shape) (c : Costs) (most : ℕ) : Type 0 where
-  pub constant : c.constant ≤ most
-  pub sizes : (i : ℕ) → i < s.trains → s.size i ≤ max_choices
-  pub pairs : s.pairs ≤ max_pairs
-  pub choice : (i a : ℕ) → i < s.trains → a < max_choices → c.choice i a ≤ most
-  pub entry : (k a e : ℕ) → k < s.pairs → a < max_choices → e < max_choices → c.pair k a e ≤ most
 
 -- the most that a train adds: its choice's cost, and one of each pair
 abbrev pub most_added : ℕ → ℕ
@@ -43,7 +35,7 @@ module _ {s : Shape} (o : Walkable s) where
       at_pair k q =
           dite (ℕ_discrete (s.second k) t)
           (λ (e : s.second k ≡ t). rw (eq-eqb (s.second k) t e)
-          (low.entry k _ _ q (within (s.first k) (omega (arith, o.shaped.ascends k q))) (within (s.second k) (omega arith))))
+          (low.entry k _ _ q (within (s.first k) (omega (arith, o.ascends k q))) (within (s.second k) (omega arith))))
           (λ n. rw (ne_eqb (s.second k) t n) (omega arith))
 
   module _ {c : Costs} (low : Limited s c max_parts) where

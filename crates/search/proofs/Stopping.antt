@@ -16,14 +16,15 @@ use Rattle.tables.specs.WellFormed.{Study}
 use Rattle.tables.specs.Plans.{Shape, Costs, IsPlan, choices_of, total, shape_of, held_costs, held_total}
 use Rattle.tables.proofs.Study.{scale_range}
 use Rattle.bounds.specs.Bounds.{bound_of}
+use Rattle.rows.specs.Limits.{Walkable}
+use Rattle.rows.proofs.Limits.{study_walkable}
 use Rattle.search.specs.Walk.{Walk, barred, added, Decided, counted, marked_spent, whole_plan, stopped, pick_walk, beaten, dropped, counted_try, one_try, tried_from, choice_try, opened_train, nothing_tried, walked, never, at_bound, searched}
 use Rattle.search.specs.Stops.{MeetsLeast, the_total, Sooner, searched_on}
 use Rattle.search.proofs.Barred.{permitted_plan}
-use Rattle.search.proofs.Totals.{Walkable, decided_start, decided_next, partial_whole}
+use Rattle.search.proofs.Totals.{decided_start, decided_next, partial_whole}
 use Rattle.search.proofs.Tries.{neither, goes_unmet, Kept, choice_keeps}
 use Rattle.search.proofs.Best.{below_best}
 use Rattle.search.proofs.Bounds.{parts_meet}
-use Rattle.search.proofs.Studies.{study_walkable}
 use Rattle.search.proofs.Theorems.{met_bound}
 
 -- v met the bound with a plan that none is below; u knows the same, after no fewer tries
@@ -79,7 +80,7 @@ tries_beside s c one two (suc k) a h v u b = tries_beside s c one two k (a + 1) 
 module _ {s : Shape} (o : Walkable s) (c : Costs) (meets : ℕ → Bool) (right : MeetsLeast s c the_total meets) (budget : ℕ) where
   -- trains that are all decided are a plan, with its total
   decided_plan : (total : ℕ) (chosen : List ℕ) → Decided s c s.trains total chosen → IsPlan s (choices_of chosen)
-  decided_plan total chosen d = permitted_plan o.shaped (choices_of chosen) d.below d.permitted
+  decided_plan total chosen d = permitted_plan o (choices_of chosen) d.below d.permitted
 
   decided_total : (m : ℕ) (chosen : List ℕ) → Decided s c s.trains m chosen → total s c (choices_of chosen) ≡ m
   decided_total m chosen d = sym (d.total ∙ partial_whole o c (choices_of chosen))

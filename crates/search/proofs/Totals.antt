@@ -12,17 +12,11 @@ use lib.ListN.{length, set, length-set}
 use borrow.Author.Tests.{ne_eqb}
 use Rattle.theory.specs.Sum.{sum}
 use Rattle.theory.proofs.Sum.{sum_none, sum_more, sum_cong, sum-add, sum_swap, sum_pick}
-use Rattle.tables.specs.Block.{max_trains}
 use Rattle.tables.specs.Plans.{Shape, Costs, choice_total, pair_total, total, choices_of}
-use Rattle.tables.proofs.Plans.{Shaped}
+use Rattle.rows.specs.Limits.{Walkable}
 use Rattle.rows.proofs.Written.{written, kept}
 use Rattle.search.specs.Walk.{barred, pair_added, added, partial_total, Decided, no_choices}
 use Rattle.search.proofs.Barred.{barred_cong}
-
--- what the laws of the walk ask of a shape besides: a list of choices has a place for each train
-pub record Walkable (s : Shape) : Type 0 where
-  pub shaped : Shaped s
-  pub room : s.trains ≤ max_trains
 
 -- the next train
 pub partial_more : (s : Shape) (c : Costs) (x : ℕ → ℕ) (t : ℕ) → partial_total s c x (t + 1) ≡ partial_total s c x t + added s c x t
@@ -48,7 +42,7 @@ module _ {s : Shape} (o : Walkable s) (c : Costs) where
       at_pair k h =
           dite (ℕ_discrete (s.second k) t)
           (λ (e : s.second k ≡ t). ap (λ (v : ℕ). cond (eqb (s.second k) t) v 0)
-          (ap₂ (c.pair k) (same (s.first k) (omega (arith, o.shaped.ascends k h))) (same (s.second k) (omega arith))))
+          (ap₂ (c.pair k) (same (s.first k) (omega (arith, o.ascends k h))) (same (s.second k) (omega arith))))
           (λ n. rw (ne_eqb (s.second k) t n))
 
   pub partial_cong : (x y : ℕ → ℕ) (t : ℕ) → ((i : ℕ) → i < t → x i ≡ y i) → partial_total s c x t ≡ partial_total s c y t
@@ -79,7 +73,7 @@ module _ {s : Shape} (o : Walkable s) (c : Costs) where
         permitted = λ i r.
             ⊎_elim
             (λ (e : i ≡ t). rw e f)
-            (λ (e : i < t). barred_cong o.shaped y (choices_of chosen) i (λ j u. kept chosen t a j (omega arith)) ∙ d.permitted i e)
+            (λ (e : i < t). barred_cong o y (choices_of chosen) i (λ j u. kept chosen t a j (omega arith)) ∙ d.permitted i e)
             (eq-or-lt_of_le (omega arith));
         total = omega (arith, d.total, partial_more s c y t, partial_cong y (choices_of chosen) t (kept chosen t a));
       }
@@ -96,5 +90,5 @@ module _ {s : Shape} (o : Walkable s) (c : Costs) where
         sum-add n (λ i. c.choice i (x i)) (λ i. sum s.pairs (pair_added s c x i)),
         sum_swap n s.pairs (λ i k. pair_added s c x i k),
         sum_cong s.pairs (λ k. sum n (λ i. pair_added s c x i k)) (λ k. c.pair k (x (s.first k)) (x (s.second k)))
-            (λ k h. sum_pick n (s.second k) _ (o.shaped.inside k h)),
+            (λ k h. sum_pick n (s.second k) _ (o.inside k h)),
       )

@@ -14,16 +14,13 @@ use Rattle.theory.proofs.Sum.{sum_cong, sum_term}
 use Rattle.tables.specs.Block.{max_parts}
 use Rattle.tables.specs.Plans.{Shape, Costs, choices_of}
 use Rattle.rows.specs.Walled.{wall}
+use Rattle.rows.specs.Limits.{Walkable, Limited}
 use Rattle.rows.proofs.Written.{written}
 use Rattle.search.specs.Walk.{barred, pair_added, added, Decided}
+use Rattle.search.specs.Sought.{Walled}
 use Rattle.search.proofs.Barred.{Permitted, barred_none, permitted_barred}
-use Rattle.search.proofs.Totals.{Walkable, decided_next}
-use Rattle.search.proofs.Room.{Limited, decided_below}
-
--- u has the costs of c, and the wall for each forbidden entry
-pub record Walled (s : Shape) (c u : Costs) : Type 0 where
-  pub choice : (i a : ℕ) → i < s.trains → a < s.size i → u.choice i a ≡ cond (s.choice_open i a) (c.choice i a) wall
-  pub entry : (k a e : ℕ) → k < s.pairs → a < s.size (s.first k) → e < s.size (s.second k) → u.pair k a e ≡ cond (s.entry_open k a e) (c.pair k a e) wall
+use Rattle.search.proofs.Totals.{decided_next}
+use Rattle.search.proofs.Room.{decided_below}
 
 -- a cost below the wall is that of an open entry
 open_below : (t : Bool) (v w : ℕ) → w ≡ cond t v wall → w < wall → t ≡ true
@@ -34,7 +31,7 @@ module _ {s : Shape} (o : Walkable s) {c u : Costs} (w : Walled s c u) where
   module _ (x : ℕ → ℕ) (t : ℕ) (h : t < s.trains) (below : (i : ℕ) → i < t + 1 → x i < s.size i) where
     -- the entry of a pair whose second train is t
     entry_at : (k : ℕ) → k < s.pairs → s.second k ≡ t → u.pair k (x (s.first k)) (x (s.second k)) ≡ cond (s.entry_open k (x (s.first k)) (x (s.second k))) (c.pair k (x (s.first k)) (x (s.second k))) wall
-    entry_at k q e = w.entry k _ _ q (below (s.first k) (omega (arith, o.shaped.ascends k q))) (below (s.second k) (omega arith))
+    entry_at k q e = w.entry k _ _ q (below (s.first k) (omega (arith, o.ascends k q))) (below (s.second k) (omega arith))
 
     -- below the wall no forbidden entry is brought in
     pub below_permitted : added s u x t < wall → barred s x t ≡ false

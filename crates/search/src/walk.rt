@@ -32,7 +32,7 @@ impl Best {
     pub const UNKNOWN: u64 = table::WALL;
 }
 
-// A walk over the plans of a study that has this table.
+// A walk over the plans of a shape that has this table.
 #[derive(Drop)]
 pub struct Search<'a> {
     pub table: &'a Table<'a>,
@@ -91,7 +91,6 @@ impl<'a> Search<'a> {
 
     // Opens train t: what its choices come to is taken from the sums, then they are tried, from 0 on. The result is what is left.
     #[cycle(open_train_try_choice)]
-    #[tactic(auto, using(tables::proofs::Study::trains_range, tables::proofs::Study::size_range))]
     pub fn open_train(&mut self, t: usize, partial: Parts, left: u64) -> u64
         requires { Opened self.old t (number_of_parts partial) left }
         ensures { OpenedTo self.old t (number_of_parts partial) left result self.new }
@@ -108,7 +107,6 @@ impl<'a> Search<'a> {
 
     // Tries choice a of train t, which comes to `total`: it is carried to the sums, and opens the next train.
     #[cycle(open_train_try_choice)]
-    #[tactic(auto, using(tables::proofs::Study::trains_range, tables::proofs::Study::size_range))]
     fn try_choice(&mut self, t: usize, a: usize, total: Parts, left: u64) -> u64
         requires { Tried self.old t a (number_of_parts total) left }
         ensures { TriedTo self.old t a (number_of_parts total) left result self.new }

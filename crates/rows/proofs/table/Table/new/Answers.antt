@@ -6,9 +6,9 @@ use Rattle.rows.proofs.table.Table.new.Goals as goal
 pub returns : goal.returns
 returns c =
     record {
-      n = c.trains.ensures;
-      s = c.scale.ensures;
-      bound = c.published.ensures;
+      trains_held = c.trains.ensures;
+      scale_held = c.scale.ensures;
+      bound_held = c.published.ensures;
       sizes = λ t h. c.sizes.ensures t (omega (arith, trains_range c.args.study.held));
       ends = c.rows.ensures.ends;
       bases = c.rows.ensures.bases;
