@@ -5,7 +5,7 @@ use Prim.Native.Nat.{ℕ, ◌+◌, ◌<◌, ◌≤◌}
 use native.Mathlib.Omega.{arith}
 use lib.IntN.{ℤ}
 use Rattle.theory.specs.Sum.{sum}
-use Rattle.theory.proofs.Sum.{sum_cong, sum_term}
+use Rattle.theory.proofs.Sum.{sum_cong, sum_term, sum_terms}
 use Rattle.tables.specs.Block.{loaded_choice_place, loaded_entry_place, trains, pairs, size, first, second}
 use Rattle.tables.specs.WellFormed.{Study}
 use Rattle.tables.specs.Plans.{Shape, AlikeShapes, Costs, IsPlan, Open, choice_total, pair_total, total, shape_of}
@@ -78,6 +78,17 @@ pub pair_at_most_total : (s : Shape) (t : Costs) (x : ℕ → ℕ) (k : ℕ) →
     → t.constant + t.pair k (x (s.first k)) (x (s.second k)) ≤ total s t x
 unfolding total pair_total
 pair_at_most_total s t x k h = omega (arith, sum_term s.pairs k (λ l. t.pair l (x (s.first l)) (x (s.second l))) h)
+
+-- what a plan pays for a pair and its two trains is at most its total
+pub two_at_most_total : (s : Shape) → Shaped s → (t : Costs) (x : ℕ → ℕ) (k : ℕ) → k < s.pairs
+    → t.constant + t.choice (s.first k) (x (s.first k)) + t.choice (s.second k) (x (s.second k)) + t.pair k (x (s.first k)) (x (s.second k)) ≤ total s t x
+unfolding total choice_total pair_total
+two_at_most_total s sh t x k h =
+    omega (
+      arith,
+      sum_terms s.trains (s.first k) (s.second k) (λ i. t.choice i (x i)) (sh.ascends k h) (sh.inside k h),
+      sum_term s.pairs k (λ l. t.pair l (x (s.first l)) (x (s.second l))) h,
+    )
 
 -- ---- shapes that agree where they are used
 

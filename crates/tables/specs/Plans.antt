@@ -1,5 +1,5 @@
 -- Document 01, 'Problem and units': the shape of a problem, its costs, its plans and their totals, above the places of the block.
-use Rattle.std.specs.Prelude.{◌≡◌, Bool, true, List, ℕ, ◌+◌, ◌<◌, ◌≤◌, ℤ, get_or}
+use Rattle.std.specs.Prelude.{◌≡◌, Bool, true, List, ◌⊎◌, ℕ, ◌+◌, ◌<◌, ◌≤◌, ℤ, get_or}
 use Rattle.theory.specs.Sum.{sum}
 use Rattle.tables.specs.Block.{loaded_choice_place, loaded_entry_place, at, trains, pairs, constant, size, first, second, loaded_choice, held_choice, loaded_entry, held_entry}
 use Rattle.tables.specs.WellFormed.{is_open}
@@ -41,6 +41,10 @@ pub record IsPlan (s : Shape) (x : ℕ → ℕ) : Type 0 where
 pub record Open (s : Shape) : Type 0 where
   pub choices : (i a : ℕ) → i < s.trains → a < s.size i → s.choice_open i a ≡ true
   pub entries : (k a c : ℕ) → k < s.pairs → a < s.size (s.first k) → c < s.size (s.second k) → s.entry_open k a c ≡ true
+
+-- the trains of pair k are i and its partner j, in either order
+abbrev pub PairOf : Shape → ℕ → ℕ → ℕ → Type 0
+PairOf s i j k = ((s.first k ≡ i) × (s.second k ≡ j)) ⊎ ((s.second k ≡ i) × (s.first k ≡ j))
 
 -- document 02, change 4, 'at most one partner of lower number': no two pairs have the same second train
 pub record Branches (s : Shape) : Type 0 where

@@ -1,5 +1,6 @@
 -- The laws of the crate, which callers cite: one file for each idea.
 pub mod Range
+pub mod First
 pub mod Sum
 pub mod Product
 pub mod Whole

@@ -75,6 +75,10 @@ sum_front m (suc n) f h =
 pub sum_part : (n i : ℕ) (f : ℕ → ℕ) → i < n → sum i f + f i ≤ sum n f
 sum_part n i f h = omega (arith, sum_front (i + 1) n f (omega arith), sum_more i f)
 
+-- two terms are at most the sum
+pub sum_terms : (n i k : ℕ) (f : ℕ → ℕ) → i < k → k < n → f i + f k ≤ sum n f
+sum_terms n i k f p h = omega (arith, sum_part n k f h, sum_term k i f p)
+
 -- a weighted sum is at most the sum of the weights times the most that is weighed
 pub sum-weighted : (n h : ℕ) (w f : ℕ → ℕ) → ((i : ℕ) → i < n → f i ≤ h) → sum n (λ i. w i * f i) ≤ sum n w * h
 unfolding sum

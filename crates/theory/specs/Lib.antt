@@ -3,5 +3,6 @@ pub mod Sum
 pub mod Product
 pub mod Whole
 pub mod Range
+pub mod First
 pub mod Fold
 pub mod Lists
