@@ -25,11 +25,13 @@ CLAUSE_COUNT_WIDTH = 2
 COST_WIDTH = 3
 WEIGHT_WIDTH = 3
 TRIES_WIDTH = 4
+LIMIT_WIDTH = 4
 FIGURE_WIDTH = 6
 MOVE_WIDTH = 6
 SUM_WIDTH = 8
 
 ENDED, ENDED_WITHOUT_PLAN = 1, 2
+OUT_BY_ITSELF, OUT_BY_PARTNER = 1, 2
 
 PLURALS = {"try": "tries", "pair of choices": "pairs of choices"}
 
@@ -143,6 +145,15 @@ def _clauses_words(facts: Facts) -> str:
     return f"load {counted(facts['trains'], 'train')}, scale {facts['scale']}, by {counted(facts['clauses'], 'clause')}"
 
 
+def _read_explain(fields: Fields) -> Facts:
+    train, choice = fields.numbers(2, COUNT_WIDTH)
+    return {"train": train, "choice": choice, "limit": fields.number(LIMIT_WIDTH)}
+
+
+def _explain_words(facts: Facts) -> str:
+    return f"explain train {facts['train']}, choice {facts['choice']}, against {counted(facts['limit'], 'point')}"
+
+
 LINES: dict[int, Form] = {
     0x01: Form("load", _read_load, _load_words),
     0x02: Form("add", _read_add, _add_words),
@@ -153,6 +164,7 @@ LINES: dict[int, Form] = {
     0x07: Form("save", _nothing, lambda _: "save"),
     0x08: Form("round", _nothing, lambda _: "round"),
     0x09: Form("clauses", _read_clauses, _clauses_words),
+    0x0A: Form("explain", _read_explain, _explain_words),
 }
 
 
@@ -189,6 +201,17 @@ def _found_words(facts: Facts) -> str:
     return f"{state}: {'there is no plan' if facts['ended'] else 'no plan found'}"
 
 
+def _read_reason(fields: Fields) -> Facts:
+    reason, partner = fields.numbers(2, COUNT_WIDTH)
+    return {"reason": reason, "partner": partner if reason == OUT_BY_PARTNER else None}
+
+
+def _reason_words(facts: Facts) -> str:
+    if facts["partner"] is not None:
+        return f"out, with train {facts['partner']}"
+    return "out by itself" if facts["reason"] == OUT_BY_ITSELF else "not out"
+
+
 def _read_declined(fields: Fields) -> Facts:
     return {"number": fields.number(COUNT_WIDTH)}
 
@@ -202,6 +225,7 @@ REPLIES: dict[int, Form] = {
     **{kind: Form("bound", _read_bound, _bound_words) for kind in BOUND_SHOWN},
     0x85: Form("ceiling", _read_ceiling, _ceiling_words),
     0x86: Form("found", _read_found, _found_words),
+    0x8A: Form("reason", _read_reason, _reason_words),
     DECLINED: Form("declined", _read_declined, "declined, {number}".format_map),
     0x01: Form("saved", _read_load, lambda facts: f"saved, to {_load_words(facts)}"),
 }
@@ -211,7 +235,7 @@ REFUSALS: dict[int, str] = {
     1: "the line is empty, has an odd count of characters or one that is not 0-9 or A-F",
     2: "the line is over {header.line_characters:,} characters",
     3: "there is no such kind",
-    4: "kinds 02 to 08 on a fresh block",
+    4: "kinds 02 to 08 and 0A on a fresh block",
     5: "a field is not wholly there, or bytes are left over",
     6: "n, s, a size, m or the count of clauses is outside the ranges",
     7: "a cost, the points to add or a clause's weight are over 1,000,000, but for a cost of FFFFFF in a load of kind 01, which forbids",

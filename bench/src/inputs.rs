@@ -96,6 +96,7 @@ fn inputs_of(size: &str, study: &Study, clauses: Vec<u8>) -> Vec<Input> {
         ("save", &held, b"07".to_vec(), "01"),
         ("round", &held, b"08".to_vec(), "88"),
         ("clauses", &of_clauses, clauses, "89"),
+        ("explain", &held, explain_line(study), "8A"),
         ("refused-character", &held, with_end(&longest, b"G"), "FF01"),
         ("refused-cost", &held, with_end(&longest, b"FFFFFE"), "FF07"),
         ("refused-kind", &held, b"10".to_vec(), "FF03"),
@@ -185,6 +186,13 @@ fn certify_line(study: &Study) -> Vec<u8> {
         }
     }
     line_of(&certificate_fields(&Certificate { whole: PLANS, single, joint }))
+}
+
+/// The last train's last choice against a limit that nothing reaches: every pair of the train is looked at.
+fn explain_line(study: &Study) -> Vec<u8> {
+    let train = study.trains.len() - 1;
+    let choice = study.trains[train].columns - 1;
+    line_of(&vec![(1, 10), (1, train as i64), (1, choice as i64), (4, 0xFFFF_FFFF)])
 }
 
 fn search_line(budget: i64) -> Vec<u8> {

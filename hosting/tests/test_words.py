@@ -58,6 +58,12 @@ class Log(unittest.TestCase):
         said = in_words("09 02 0001 0001 0102 000005", "89 000000000000 000000000000")
         self.assertEqual(said, "load 2 trains, scale 1, by 1 clause  ->  constant 0 parts, bound 0 points")
 
+    def test_reasons(self) -> None:
+        asked = "0A 01 00 00000003"
+        self.assertEqual(in_words(asked, "8A 00 FF"), "explain train 1, choice 0, against 3 points  ->  not out")
+        self.assertEqual(in_words(asked, "8A 01 FF").split("->  ")[1], "out by itself")
+        self.assertEqual(in_words(asked, "8A 02 00").split("->  ")[1], "out, with train 0")
+
     def test_what_is_not_known_is_its_number(self) -> None:
         self.assertEqual(in_words("0B 0001", "8B 0001"), "kind 0B  ->  kind 8B")
         self.assertEqual(in_words("04", "FF 63"), "tighten  ->  declined, 99")

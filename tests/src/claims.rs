@@ -1,5 +1,5 @@
-//! The claims of "Lists and the ledger", of saves, of rounds, of forbidden entries, of stopping at the bound and of clauses,
-//! checked from the outside by every plan of small studies.
+//! The claims of "Lists and the ledger", of saves, of rounds, of forbidden entries, of stopping at the bound, of clauses and
+//! of reasons, checked from the outside by every plan of small studies.
 
 use crate::generator::{Reach, Session};
 use crate::lines;
@@ -31,6 +31,7 @@ pub struct Tally {
     pub forbidden: Forbidden,
     pub stops: Stops,
     pub clauses: Literals,
+    pub reasons: Reasons,
     pub saves: Saves,
 }
 
@@ -64,6 +65,17 @@ pub struct Forbidden {
     pub ended: usize,
     pub ended_without: usize,
     pub spent_without_any: usize,
+}
+
+/// How often reasons were put to the test.
+#[derive(Default, Debug)]
+pub struct Reasons {
+    pub neither: usize,
+    pub own: usize,
+    pub partner: usize,
+    /// Of 01 and of 02, those whose limit is the least cost of the plans with the choice, and those without such a plan.
+    pub tight: [usize; 2],
+    pub without_plan: [usize; 2],
 }
 
 /// A line's or a reply's bytes, read without judging: only accepted ones come here.
@@ -267,6 +279,46 @@ impl Ledger {
         demand(flag == 0 || least == Some(cost), "an ended search is beaten")
     }
 
+    /// "With 02 and a train", a partner of the line's; "the last FF unless 02". "After lines from fresh, where 01 or 02
+    /// stands, every plan with that choice costs the limit or more." Nothing is claimed where 00 stands.
+    fn check_reason(
+        &self,
+        line: &[u8],
+        reply: &[u8],
+        plans: &Plans,
+        tally: &mut Reasons,
+    ) -> Result<(), String> {
+        let mut fields = Reader(&line[2..]);
+        let (train, choice) = (fields.number(1) as usize, fields.number(1) as usize);
+        let limit = fields.number(4);
+        let mut shown = Reader(&reply[2..]);
+        let (reason, partner) = (shown.number(1), shown.number(1));
+        let partners = [train, partner as usize];
+        let named = self.costs.pairs.iter().any(|pair| {
+            let [i, j] = pair.trains;
+            [[i, j], [j, i]].contains(&partners)
+        });
+        demand(reason <= 2, "a reason is none of the three")?;
+        demand(
+            if reason == 2 { named } else { partner == 0xFF },
+            "a reason names a train that is no partner",
+        )?;
+        let costs = plans.iter().filter(|(plan, _)| plan[train] == choice).map(|plan| plan.1);
+        let least = costs.min();
+        demand(
+            reason == 0 || least.is_none_or(|least| limit <= least),
+            "a plan with a choice that is out costs less than the limit",
+        )?;
+        let counts = [&mut tally.neither, &mut tally.own, &mut tally.partner];
+        *counts[reason as usize] += 1;
+        if reason > 0 {
+            let place = reason as usize - 1;
+            tally.tight[place] += usize::from(least == Some(limit));
+            tally.without_plan[place] += usize::from(least.is_none());
+        }
+        Ok(())
+    }
+
     /// "W × the constant of every rival is at most E", for some rivals.
     fn check_certificate(
         &self,
@@ -354,7 +406,8 @@ impl Step<'_> {
     fn check_change(&self) -> Result<(), String> {
         let same = self.block == self.before;
         demand(accepted(self.reply) || same, "a refused line changed the block")?;
-        demand(!self.is(b"07") || same, "a save changed the block")?;
+        let leaves = self.is(b"07") || self.is(b"0A");
+        demand(!leaves || same, "a save or a reason changed the block")?;
         let rewriting = self.is(b"04") || self.is(b"08");
         demand(!rewriting || self.block[3] >= self.before[3], "tighten or round lowered the constant")
     }
@@ -416,6 +469,7 @@ impl Step<'_> {
                 ledger.check_search(reply, plans, tally)?;
                 tally.stops.check(block, line, reply)
             }
+            Some(b"8A") => ledger.check_reason(line, reply, plans, &mut tally.reasons),
             Some(shown) => {
                 if shown == b"81" {
                     tally.saves.check_load(service, block, line)?;

@@ -6,6 +6,7 @@ use crate::lines::{self, LONGEST_LINE, MOVES};
 use crate::model::{self, Cost, Costs, Pair, Study, BLOCK_LENGTH, FORBIDDEN, TOP};
 use crate::operations::{self, Certificate, Shift};
 use crate::random::Random;
+use crate::reasons::beside;
 use crate::rewriting::Rewriting;
 use crate::search;
 use crate::studies::{clique, forbid, mispair, pairs, raise, scale};
@@ -219,7 +220,7 @@ impl Session {
                 &substitute
             }
         };
-        match self.random.below(27) {
+        match self.random.below(30) {
             _ if load => load_fields(study),
             0..=3 => self.add(study),
             4..=8 => self.shift(study),
@@ -227,6 +228,7 @@ impl Session {
             12..=15 => certificate_fields(&self.certificate(study)),
             16..=18 => vec![(1, 7)],
             19..=21 => vec![(1, 8)],
+            22..=24 => self.question(study),
             _ => vec![(1, 6), (4, self.budget(study))],
         }
     }
@@ -276,10 +278,7 @@ impl Session {
         let random = &mut self.random;
         let (train, choice) = match random.chance(25) {
             true => highest(study),
-            false => {
-                let train = random.below(study.trains.len());
-                (train, random.below(study.size(train)))
-            }
+            false => any_choice(random, study),
         };
         let none = Cost { loaded: 0, held: 0 };
         let Cost { loaded, held } = study.trains[train].entries[choice].unwrap_or(none);
@@ -300,6 +299,31 @@ impl Session {
             _ => (train, choice),
         };
         vec![(1, 2), (1, train as i64), (1, choice as i64), (3, points)]
+    }
+
+    /// A train, a choice and a limit, mostly one beside what constant, choice and perhaps a pair's least come to.
+    fn question(&mut self, study: &Study) -> Fields {
+        let random = &mut self.random;
+        let (train, choice) = hopeless(random, study).unwrap_or_else(|| any_choice(random, study));
+        let own = study.constant + study.trains[train].held(choice).unwrap_or(0);
+        let pairs = study.pairs.iter().filter_map(|pair| beside(study, pair, train, choice));
+        let sums: Vec<i64> = pairs.filter_map(|(_, least)| Some(own + least?)).collect();
+        let parts = match sums.is_empty() || random.chance(25) {
+            true => own,
+            false => random.pick(&sums),
+        };
+        let near = parts / study.scale + random.pick(&[-1, 0, 0, 1, 1, 2]);
+        let limit = match random.below(12) {
+            0 => random.pick(&[0, 0xFFFF_FFFF]),
+            1 => random.between(0, 0xFFFF_FFFF),
+            _ => near.clamp(0, 0xFFFF_FFFF),
+        };
+        let (train, choice) = match random.below(20) {
+            0 => (study.trains.len(), choice),
+            1 => (train, study.size(train)),
+            _ => (train, choice),
+        };
+        vec![(1, 10), (1, train as i64), (1, choice as i64), (4, limit)]
     }
 
     fn shift(&mut self, study: &Study) -> Fields {
@@ -427,7 +451,7 @@ impl Session {
             _ => random
                 .pick(&[
                     "00", "10", "81", "FF", "1", "01", "02", "03", "0400", "05", "06", "0700", "070707",
-                    "0800", "080808", "09", "0901",
+                    "0800", "080808", "09", "0901", "0A", "0A00", "0A0000", "0B",
                 ])
                 .into(),
         }
@@ -454,9 +478,35 @@ pub fn sessions(count: u64, mut see: impl FnMut(&Call, &[i64], &Outcome)) {
 
 /// The train and the choice with the highest cost in T.
 fn highest(study: &Study) -> (usize, usize) {
-    let choices = study.trains.iter().enumerate();
-    let places = choices.flat_map(|(train, costs)| (0..costs.columns).map(move |choice| (train, choice)));
-    places.max_by_key(|&(train, choice)| study.trains[train].held(choice)).expect("sizes are at least 1")
+    places(study)
+        .max_by_key(|&(train, choice)| study.trains[train].held(choice))
+        .expect("sizes are at least 1")
+}
+
+fn any_choice(random: &mut Random, study: &Study) -> (usize, usize) {
+    let train = random.below(study.trains.len());
+    (train, random.below(study.size(train)))
+}
+
+/// Now and then a forbidden choice, or one that no choice of a partner goes with, where there is one.
+fn hopeless(random: &mut Random, study: &Study) -> Option<(usize, usize)> {
+    let alone = |train, choice| {
+        let mut pairs = study.pairs.iter().filter_map(|pair| beside(study, pair, train, choice));
+        pairs.any(|(_, least)| least.is_none())
+    };
+    let forbidden = random.chance(40);
+    let wanted = |&(train, choice): &(usize, usize)| match study.trains[train].held(choice) {
+        None => forbidden,
+        Some(_) => !forbidden && alone(train, choice),
+    };
+    let choices: Vec<_> = places(study).filter(wanted).collect();
+    (!choices.is_empty() && random.chance(30)).then(|| random.pick(&choices))
+}
+
+/// Every train with each of its choices.
+fn places(study: &Study) -> impl Iterator<Item = (usize, usize)> + '_ {
+    let trains = study.trains.iter().enumerate();
+    trains.flat_map(|(train, costs)| (0..costs.columns).map(move |choice| (train, choice)))
 }
 
 /// The places where the wanted block differs.

@@ -12,6 +12,7 @@ pub mod model;
 pub mod operations;
 pub mod product;
 pub mod random;
+pub mod reasons;
 pub mod rewriting;
 pub mod saves;
 pub mod search;
@@ -21,6 +22,7 @@ pub mod weights;
 
 use lines::{Fields, Kind, LONGEST_LINE};
 use model::{Refusal, Study, BLOCK_LENGTH};
+use reasons::Reason;
 use search::End;
 use std::error::Error;
 use std::io::{self, BufRead, Write};
@@ -89,6 +91,7 @@ fn respond(line: &[u8], block: &mut [i64]) -> Result<Vec<u8>, Refusal> {
             fields.end()?;
             Ok(lines::saved(&study))
         }
+        Kind::Explain => explain(&present()?, fields),
     }
 }
 
@@ -143,6 +146,16 @@ fn search(study: &Study, fields: Fields) -> Result<Vec<u8>, Refusal> {
         None => bytes.resize(bytes.len() + 6 + study.trains.len(), 0xFF),
     }
     Ok(bytes)
+}
+
+/// "The reply is 8A, reason, train, the last FF unless 02." It changes nothing in the block.
+fn explain(study: &Study, fields: Fields) -> Result<Vec<u8>, Refusal> {
+    let (reason, train) = match reasons::reason(study, &lines::question(fields, study)?) {
+        Reason::Neither => (0, 0xFF),
+        Reason::Own => (1, 0xFF),
+        Reason::Partner(train) => (2, train as u8),
+    };
+    Ok(vec![0x8A, reason, train])
 }
 
 /// "A program reads standard input, starts fresh, and prints a reply line for each input line; a

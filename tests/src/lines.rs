@@ -3,6 +3,7 @@
 use crate::clauses::{Clause, Clauses};
 use crate::model::{Costs, Pair, Refusal, Study, COSTS, PAIRS, SCALES, SIZES, TRAINS};
 use crate::operations::{Add, Certificate, Shift};
+use crate::reasons::Question;
 use std::ops::RangeInclusive;
 
 /// "over 19,834 characters" is 2.
@@ -28,6 +29,7 @@ pub enum Kind {
     Save,
     Round,
     Clauses,
+    Explain,
 }
 
 /// The bytes behind the kind, read from the left.
@@ -132,6 +134,7 @@ pub fn open(line: &[u8]) -> Result<(Kind, Fields), Refusal> {
         7 => Kind::Save,
         8 => Kind::Round,
         9 => Kind::Clauses,
+        10 => Kind::Explain,
         _ => return Err(Refusal::NoSuchKind),
     };
     Ok((kind, Fields { bytes, next: 1 }))
@@ -206,12 +209,18 @@ pub fn saved(study: &Study) -> Vec<u8> {
     bytes
 }
 
-/// "train, choice (1 each), points (3)." "Train or choice absent" is 9.
-pub fn add(mut fields: Fields, study: &Study) -> Result<Add, Refusal> {
+/// "Train, choice (1 each)." "Train or choice absent" is 9.
+fn present(fields: &mut Fields, study: &Study) -> Result<(usize, usize), Refusal> {
     let train = fields.number(1)? as usize;
     let costs = study.trains.get(train).ok_or(Refusal::Absent)?;
     let choice = fields.number(1)? as usize;
     costs.entries.get(choice).ok_or(Refusal::Absent)?;
+    Ok((train, choice))
+}
+
+/// "train, choice (1 each), points (3)."
+pub fn add(mut fields: Fields, study: &Study) -> Result<Add, Refusal> {
+    let (train, choice) = present(&mut fields, study)?;
     let points = fields.judged(3, COSTS, Refusal::Cost)?;
     fields.end()?;
     Ok(Add { train, choice, points })
@@ -243,4 +252,12 @@ pub fn budget(mut fields: Fields) -> Result<i64, Refusal> {
     let budget = fields.judged(4, BUDGETS, Refusal::Budget)?;
     fields.end()?;
     Ok(budget)
+}
+
+/// "Kind 0A: train, choice, limit in points (4)." "9 applies." Every limit of four bytes will do.
+pub fn question(mut fields: Fields, study: &Study) -> Result<Question, Refusal> {
+    let (train, choice) = present(&mut fields, study)?;
+    let limit = fields.number(4)?;
+    fields.end()?;
+    Ok(Question { train, choice, limit })
 }

@@ -1,6 +1,6 @@
 //! The document's claims on sessions of small studies, saves on sessions of every size, and the generator's reach.
 
-use reference::claims::{check_session, Ceilings, Forbidden, Tally};
+use reference::claims::{check_session, Ceilings, Forbidden, Reasons, Tally};
 use reference::generator::sessions;
 use reference::lines::{saved, MOVES};
 use reference::literals::Literals;
@@ -33,6 +33,9 @@ fn the_claims_hold_by_every_plan() {
     let Literals { lines, differing, paired, added_up, weightless, on_fresh, over_forbidden } = tally.clauses;
     assert!(lines > 300 && of_clauses == lines && differing > 180 && paired > 170, "{tally:?}");
     assert!(added_up > 160 && weightless > 140 && on_fresh > 50 && over_forbidden > 90, "{tally:?}");
+    let Reasons { neither, own, partner, tight, without_plan } = tally.reasons;
+    assert!(neither > 500 && own > 500 && partner > 200, "{tally:?}");
+    assert!(tight.iter().chain(&without_plan).all(|&count| count > 30), "{tally:?}");
     for (ceilings, least) in tally.ceilings.iter().zip([500, 100]) {
         let Ceilings { certificates, reached, better_rivals, tight_rivals, .. } = ceilings;
         assert!(*certificates > 2 * least && *reached > least, "{tally:?}");
@@ -275,6 +278,7 @@ fn the_generator_reaches_every_answer() {
         ("07", &[1, 4, 5, 16]),
         ("08", &[1, 4, 5, 12, 16]),
         ("09", &[1, 5, 6, 7, 10, 16, 19, 20]),
+        ("0A", &[1, 4, 5, 9, 16]),
         ("00", &[2, 3]),
         ("10", &[3]),
     ] {

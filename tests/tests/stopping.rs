@@ -88,7 +88,7 @@ impl Both {
 fn searches_stop_at_the_bound() {
     let mut seen = Seen::default();
     let mut after = String::new();
-    sessions(600, |call, given, outcome| {
+    sessions(800, |call, given, outcome| {
         if matches!(call.setting, Setting::Edited(_)) {
             after.clear();
         }

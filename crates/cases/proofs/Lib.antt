@@ -17,6 +17,7 @@ pub mod GivenBack
 pub mod Rounds
 pub mod Forbidden
 pub mod Clauses
+pub mod Reasons
 pub mod Limits
 pub mod BlockLimits
 pub mod PlanCosts

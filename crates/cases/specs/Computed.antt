@@ -3,6 +3,7 @@ use Rattle.std.specs.Prelude.{cond, List, [], ◌∷◌, ℕ, ltb, length}
 use Rattle.theory.specs.Sum.{sum}
 use Rattle.theory.specs.Range.{all, pass}
 use Rattle.theory.specs.Fold.{iter, down}
+use Rattle.theory.specs.First.{first_passing}
 use Rattle.theory.specs.Lists.{list_from, joined}
 use Rattle.units.specs.Units.{rounded_up}
 use Rattle.refusals.specs.declared.Refusal.TheVariants.{Malformed}
@@ -23,6 +24,7 @@ use Rattle.shift.specs.Shift.{pair_shifted, shifted}
 use Rattle.tighten.specs.Tighten.{pair_tightened, tightened}
 use Rattle.directional.specs.Directional.{cost_taken, pair_round, pair_turn, train_round, directed}
 use Rattle.certificates.specs.Certify.{train_balanced, row_balanced, column_balanced, pair_balanced, balanced, choice_spared, entry_spared, spared, over_choices, over_pairs, weighted}
+use Rattle.reasons.specs.Reasons.{own_reaches, pair_reaches, out_by, reason_of}
 use Rattle.frames.specs.Digits.{digit, digit_of, byte_at}
 use Rattle.frames.specs.Fields.{field, signed, field_digits}
 use Rattle.frames.specs.Frames.{all_digits, framed}
@@ -34,14 +36,14 @@ use Rattle.lines.specs.Text.{pair_digits, pairs_digits, load_digits}
 use Rattle.lines.specs.Verdicts.{field_verdict, runs_verdict, last_verdict}
 use Rattle.kinds.specs.Load.{pair_ordered, pair_verdict, head_verdict, rest_verdict, load_verdict}
 use Rattle.kinds.specs.Clauses.{clause_verdict, clause_run_verdict, clauses_verdict}
-use Rattle.kinds.specs.Lines.{add_verdict, shift_verdict, certify_verdict, search_verdict, study_line}
+use Rattle.kinds.specs.Lines.{add_verdict, shift_verdict, certify_verdict, search_verdict, explain_verdict, study_line}
 use Rattle.decoding.specs.Numbers.{entries_of, numbers_of}
 use Rattle.decoding.specs.Clauses.{clauses_of}
 use Rattle.reader.specs.Reading.{kind_line, line_of}
 use Rattle.search.specs.Walk.{barred, partial_total, one_try, tried_from, opened_train, walked, searched}
 use Rattle.search.specs.Walk as walk
 use Rattle.search.specs.Answer.{search_answer}
-use Rattle.replies.specs.Replies.{refusal_reply, bound_reply, certify_reply, search_reply, fields_digits}
+use Rattle.replies.specs.Replies.{refusal_reply, bound_reply, certify_reply, search_reply, reason_reply, fields_digits}
 use Rattle.requests.specs.Answer.{Answer, answered, requested, line_answer}
 use Rattle.service.specs.Answer.{min_buffer}
 use Rattle.cases.specs.Written.{text, marks, closed, place, places, rows, grids, laid}
@@ -62,11 +64,12 @@ unfolding text zeros marks closed place places rows grids laid held call row dec
     literals_right other_of cell_of cell_from charged_to unnamed_to named codes_below pair_codes clause_numbers costs_within sums_within clauses_outcome
     move_run kept pair_shifted shifted mate_place open_place found_of run_least run_tightened pair_tightened tightened cost_taken pair_round pair_turn train_round directed
     train_balanced row_balanced column_balanced pair_balanced balanced choice_spared entry_spared spared over_choices over_pairs weighted
+    first_passing own_reaches pair_reaches out_by reason_of
     digit digit_of byte_at field signed field_digits all_digits framed list_from run_digits
     new_kind pair_at pair_digits pairs_digits load_digits entries_of numbers_of first_of field_verdict last_verdict runs_verdict pair_ordered pair_verdict head_verdict rest_verdict load_verdict
-    clause_verdict clause_run_verdict clauses_verdict clauses_of add_verdict shift_verdict certify_verdict search_verdict study_line kind_line line_of
+    clause_verdict clause_run_verdict clauses_verdict clauses_of add_verdict shift_verdict certify_verdict search_verdict explain_verdict study_line kind_line line_of
     barred walk.added partial_total one_try tried_from opened_train walked searched search_answer
-    fields_digits refusal_reply bound_reply certify_reply search_reply
+    fields_digits refusal_reply bound_reply certify_reply search_reply reason_reply
     requested line_answer
 computed [] = []
 computed (r ∷ rs) = left_by (answer_on r.line r.on (marks r.room)) r.room ∷ computed rs

@@ -1,8 +1,9 @@
--- What certificates and searches say by the ledger's costs, before it is written as characters. A rival of the ledger is one of the block, since their shapes and costs agree where they are used.
+-- What certificates, searches and reasons say by the ledger's costs, before it is written as characters. A rival of the ledger is one of the block, since their shapes and costs agree where they are used.
 use Rattle.std.specs.Prelude.{Ok}
 use mathlib.Core.Path.{◌≡◌, refl, sym, ap, ap₂, subst, ◌∙◌}
 use mathlib.Core.Bool.{true, cond}
 use mathlib.Core.List.{List}
+use mathlib.Core.Logic.{inl, inr, ⊎_elim}
 use Prim.Native.Nat.{ℕ, zero, suc, ◌+◌, ◌*◌, ◌<◌, ◌≤◌}
 use native.Mathlib.Nat.{mul-zero}
 use native.Mathlib.Omega.{arith}
@@ -10,8 +11,8 @@ use lib.Dec.{eqb}
 use lib.IntN.{ℤ}
 use Rattle.units.specs.Units.{rounded_up}
 use Rattle.units.proofs.Bound.{rounded_whole}
-use Rattle.tables.specs.Block.{max_trains, max_pairs, max_cost, scale}
-use Rattle.tables.specs.Plans.{Shape, AlikeShapes, Costs, IsPlan, Open, choices_of, shape_of, loaded_costs, held_total}
+use Rattle.tables.specs.Block.{max_trains, max_pairs, max_cost, trains, scale, first, second}
+use Rattle.tables.specs.Plans.{Shape, AlikeShapes, Costs, IsPlan, Open, choices_of, shape_of, loaded_costs, held_costs, held_total}
 use Rattle.tables.proofs.Plans.{Shaped, study_shaped, first-size, second-size}
 use Rattle.tables.proofs.Study.{scale_range}
 use Rattle.bounds.specs.Bounds.{bound_of}
@@ -21,10 +22,14 @@ use Rattle.certificates.specs.Rival.{Fraction, as_fraction, plus, times, sum_of,
 use Rattle.certificates.proofs.Ceilings.{certify_rival, rival_cong, rival_alike}
 use Rattle.weights.specs.Rival.{Amounts, given_of, Leaves, LiftsAtMost}
 use Rattle.weights.proofs.Certified.{certify_moved}
+use Rattle.reasons.specs.declared.Reason.TheVariants.{Partner}
+use Rattle.reasons.specs.Reasons.{reason_at, reason_number}
+use Rattle.reasons.proofs.Reasons.{reason_names}
+use Rattle.reasons.proofs.Costs.{reason_cost}
 use Rattle.search.specs.Answer.{is_found, found_cost, found_plan, search_answer}
 use Rattle.search.proofs.Theorems.{answer_plan, answer_cost, answer-least}
 use Rattle.claims.specs.Ledger.{Ledger, cost_of}
-use Rattle.claims.specs.Claims.{PlanOf, scaled_cost, start_costs}
+use Rattle.claims.specs.Claims.{PlanOf, scaled_cost, start_costs, Partners}
 use Rattle.claims.proofs.Keeps.{Keeps, scaled-total, plan_in, plan_out, open_in, cost_is, total_is, bound_low, loaded_total_most}
 use Rattle.claims.proofs.Kept.{SameCosts}
 
@@ -117,3 +122,24 @@ module _ {g : Ledger} {b : List ℤ} (k : Keeps g b) where
         let q = plan_in k x p in
         let f = answer-least k.study budget bound_lowest e x q in
         (f.0, omega (arith, f.1, in_points x q))
+
+  module _ (i a limit : ℕ) where
+    -- 'where 01 or 02 stands, every plan with that choice costs the limit or more'
+    pub reason_low : i < trains b → (reason_number (reason_at b i a limit) ≡ 0 → ⊥) → (x : ℕ → ℕ) → PlanOf g x → x i ≡ a → limit ≤ cost_of g x
+    reason_low h n x p e =
+        let q = plan_in k x p in
+        omega (arith, cost_is k x q, reason_cost k.study x q i h limit (rw e n) (scaled-total k x q))
+
+    -- the named train is the line's partner in a pair of the ledger
+    pub partner_named : (j : ℕ) → reason_at b i a limit ≡ Partner j → Partners g i j
+    partner_named j e =
+        let w = reason_names (shape_of b) (held_costs b) i a (scale b * limit) j e in
+        let s = k.same.shape_same in
+        let f = sym (s.firsts_same w.pair w.there) in
+        let h = sym (s.seconds_same w.pair w.there) in
+        record {
+          pair = w.pair;
+          there = omega (arith, w.there, s.pairs_same);
+          trains =
+              ⊎_elim (λ (q : (first b w.pair ≡ i) × (second b w.pair ≡ j)). inl (f ∙ q.0, h ∙ q.1)) (λ (q : (second b w.pair ≡ i) × (first b w.pair ≡ j)). inr (h ∙ q.0, f ∙ q.1)) w.trains;
+        }

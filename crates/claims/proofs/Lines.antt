@@ -3,6 +3,7 @@ use Rattle.std.specs.Prelude.{Ok}
 use mathlib.Core.Path.{◌≡◌, refl, sym, ap, ap₂, ◌∙◌}
 use mathlib.Core.Bool.{Bool, true, false, not}
 use mathlib.Core.List.{List, []}
+use mathlib.Core.Logic.{◌⊎◌, ⊎_elim}
 use Prim.Native.Nat.{ℕ, ◌*◌, ◌-◌, ◌<◌, ◌≤◌, ◌^◌}
 use native.Mathlib.Omega.{arith}
 use lib.Dec.{eqb}
@@ -21,17 +22,20 @@ use Rattle.certificates.specs.Rival.{Rival, IsRival, ConstantAtMost}
 use Rattle.weights.specs.Rival.{Amounts, Leaves, LiftsAtMost}
 use Rattle.frames.specs.Digits.{digit, byte_at}
 use Rattle.frames.specs.Fields.{field}
+use Rattle.reasons.specs.declared.Reason.{Reason}
+use Rattle.reasons.specs.declared.Reason.TheVariants.{Neither, Own, Partner}
+use Rattle.reasons.specs.Reasons.{no_partner, reason_number, reason_train}
 use Rattle.lines.specs.declared.kind.Kind.{Kind}
 use Rattle.lines.specs.Kinds.{new_kind}
-use Rattle.lines.specs.Layout.{kind_of}
+use Rattle.lines.specs.Layout.{kind_of, explain_train, explain_choice, explain_limit}
 use Rattle.search.specs.declared.answer.Found.{Found}
 use Rattle.search.specs.Answer.{is_found, found_cost, found_plan}
-use Rattle.replies.specs.Replies.{refusal_reply, figure_width, choice_width, flag, bound_reply, certify_reply, shown_cost, shown_choice, search_reply}
+use Rattle.replies.specs.Replies.{refusal_reply, figure_width, choice_width, flag, bound_reply, certify_reply, shown_cost, shown_choice, search_reply, reason_reply}
 use Rattle.replies.specs.Shown.{kind_shown, accepted, says_ended, says_ended_without, cost_shown, plan_shown, shows_plan}
-use Rattle.replies.proofs.ReadBack.{refusal_number_lem, constant-shown, bound_shown_lem, certify_flag, certify_weighted, certify_full_weight_lem, search_ended, search_without, search_cost, search_plan}
+use Rattle.replies.proofs.ReadBack.{refusal_number_lem, constant-shown, bound_shown_lem, certify_flag, certify_weighted, certify_full_weight_lem, search_ended, search_without, search_cost, search_plan, reason-shown, train-shown}
 use Rattle.service.specs.Calls.{exchange}
 use Rattle.claims.specs.Ledger.{Ledger, by_kind, cost_of}
-use Rattle.claims.specs.Claims.{PlanOf, DeclinedAs, outside, malformed, scaled_cost, start_costs, BoundClaim, CeilingClaim, SearchClaim, RoundClaim, Claim, shown_kind, never_outside, AtCall}
+use Rattle.claims.specs.Claims.{PlanOf, DeclinedAs, outside, malformed, scaled_cost, start_costs, BoundClaim, CeilingClaim, SearchClaim, RoundClaim, Partners, ExplainClaim, Claim, shown_kind, never_outside, AtCall}
 use Rattle.claims.proofs.ByKind.{reply_low}
 
 -- ---- a call, from its line
@@ -173,3 +177,33 @@ module _ (g : Ledger) (l : List ℕ) (n : ℕ) (f : Found) (r : Right g n f) whe
         blank = λ s. let e = (says_none s).1 in (unknown_hides e, λ i h. unknown_choice e i (omega (arith, r.trains)));
         none = λ s x p. let w = says_none s in not_both (r.ended w.0 x p).0 w.1;
       }
+
+-- 8A
+reason_most : (r : Reason) → reason_number r ≤ 2
+reason_most Neither = omega arith
+reason_most Own = omega arith
+reason_most (Partner j) = omega arith
+
+-- what 02 names, of a train below 24, and what else stands there
+of_partner : {P : ℕ → Type 0} (r : Reason) → ((j : ℕ) → r ≡ Partner j → P j) → reason_number r ≡ 2 → P (reason_train r)
+of_partner (Partner j) f e = f j refl
+of_partner Neither f e = absurd (omega (arith, e))
+of_partner Own f e = absurd (omega (arith, e))
+
+without_partner : (r : Reason) → (reason_number r ≡ 2 → ⊥) → reason_train r ≡ no_partner
+without_partner Neither n = refl
+without_partner Own n = refl
+without_partner (Partner j) n = absurd (n refl)
+
+pub explain_claim : (g : Ledger) (l : List ℕ) (r : Reason) → reason_train r < 256
+    → ((reason_number r ≡ 0 → ⊥) → (x : ℕ → ℕ) → PlanOf g x → x (explain_train l) ≡ explain_choice l → explain_limit l ≤ cost_of g x)
+    → ((j : ℕ) → r ≡ Partner j → Partners g (explain_train l) j) → ExplainClaim g (exchange l (reason_reply r))
+explain_claim g l r h costs named =
+    let n = reason-shown r in
+    let t = train-shown r h in
+    record {
+      reason = omega (arith, n, reason_most r);
+      costs = λ e. costs (λ z. ⊎_elim (λ q. absurd (omega (arith, n, z, q))) (λ q. absurd (omega (arith, n, z, q))) e);
+      named = λ e. rw t (of_partner {P = Partners g (explain_train l)} r named (sym n ∙ e));
+      unnamed = λ e. t ∙ without_partner r (λ q. e (n ∙ q));
+    }

@@ -39,31 +39,33 @@ use Rattle.directional.specs.Directional.{directed}
 use Rattle.directional.proofs.Ends.{direct_rewrites}
 use Rattle.certificates.specs.Certify.{weights_of, certificate}
 use Rattle.certificates.proofs.Ceilings.{certify_cases, certify_ceiling, certify_fits}
+use Rattle.reasons.specs.Reasons.{reason_at}
+use Rattle.reasons.proofs.Costs.{shown_low}
 use Rattle.frames.specs.Runs.{run_of, signed_run_of}
 use Rattle.lines.specs.declared.kind.Kind.{Kind}
 use Rattle.lines.specs.declared.kind.Kind.TheVariants as kind
 use Rattle.lines.specs.declared.request.Request.{Request}
-use Rattle.lines.specs.declared.request.Request.TheVariants.{Load, Add, Shift, Tighten, Certify, Search, Save, Round, Clauses}
+use Rattle.lines.specs.declared.request.Request.TheVariants.{Load, Add, Shift, Tighten, Certify, Search, Save, Round, Clauses, Explain}
 use Rattle.lines.specs.declared.request.Line.TheVariants.{Refused}
 use Rattle.lines.specs.Kinds.{new_kind, request_kind}
-use Rattle.lines.specs.Layout.{kind_of, move_width, weight_width, add_train, add_choice, add_points, certify_full_weight, search_budget, weight_field, lift_field, move_field, load_trains, load_scale}
+use Rattle.lines.specs.Layout.{kind_of, move_width, weight_width, add_train, add_choice, add_points, certify_full_weight, search_budget, weight_field, lift_field, move_field, load_trains, load_scale, explain_train, explain_choice, explain_limit}
 use Rattle.kinds.specs.Load.{load_verdict, load_request}
 use Rattle.kinds.specs.Clauses.{clauses_verdict, clauses_request}
-use Rattle.kinds.specs.Lines.{add_request, shift_request, certify_request, search_request}
-use Rattle.kinds.proofs.Accepted.{add_fine, certify_fine}
+use Rattle.kinds.specs.Lines.{add_request, shift_request, certify_request, search_request, explain_request}
+use Rattle.kinds.proofs.Accepted.{FineExplain, add_fine, certify_fine, explain_fine}
 use Rattle.decoding.specs.Numbers.{numbers_of}
 use Rattle.decoding.specs.Clauses.{clauses_of, clause_numbers_of}
 use Rattle.decoding.proofs.LoadRange.{load_in_range}
 use Rattle.decoding.proofs.ClausesRange.{clauses_in_limits}
 use Rattle.reader.specs.Reading.{line_of}
-use Rattle.reader.proofs.LineAccepted.{Makes, line_makes, add_there}
+use Rattle.reader.proofs.LineAccepted.{Makes, line_makes, add_there, explain_there}
 use Rattle.reader.proofs.LineKind.{line_known}
 use Rattle.reader.proofs.LineRefused.{of_reading, line_refused}
 use Rattle.search.specs.Answer.{search_answer}
 use Rattle.search.proofs.Theorems.{answer_entries}
-use Rattle.replies.specs.Replies.{refusal_reply, reply_kind, figure_width, bound_reply, certify_reply, search_reply, longest_fixed}
+use Rattle.replies.specs.Replies.{refusal_reply, reply_kind, figure_width, bound_reply, certify_reply, search_reply, reason_reply, longest_fixed}
 use Rattle.replies.specs.Shown.{kind_shown, accepted}
-use Rattle.replies.proofs.ReadBack.{bound_kind, certify_kind, search_kind}
+use Rattle.replies.proofs.ReadBack.{bound_kind, certify_kind, search_kind, reason_kind}
 use Rattle.replies.proofs.Accepted.{empty_refused, refusal_refused}
 use Rattle.requests.specs.Answer.{Answer, answered, declined, operated, certified, saved, requested, line_answer}
 use Rattle.requests.proofs.LineCases.{line_cases}
@@ -74,10 +76,10 @@ use Rattle.service.proofs.AnswerCases.{fixed_fit, answer_cases}
 use Rattle.claims.specs.Ledger.{Ledger, by_kind, changed, fed}
 use Rattle.claims.specs.Claims.{outside, malformed, BoundClaim, Claim, shown_kind, never_outside, AtCall}
 use Rattle.claims.proofs.ByKind.{by_kind_lem, kind_accepted}
-use Rattle.claims.proofs.Found.{ceiling_holds, moved_holds, known_plan, known_low, ended_least}
+use Rattle.claims.proofs.Found.{ceiling_holds, moved_holds, known_plan, known_low, ended_least, reason_low, partner_named}
 use Rattle.claims.proofs.Keeps.{Keeps, open_in, bound_low, total_most, entry_most, scaled_most, held-total_most}
 use Rattle.claims.proofs.Kept.{load_keeps, judged_keeps, add-scaled, add_keeps}
-use Rattle.claims.proofs.Lines.{at_refused, at_accepted, other_refusal, empty_shows, bound_claim, round_claim, ceiling_claim, Right, search_claim}
+use Rattle.claims.proofs.Lines.{at_refused, at_accepted, other_refusal, empty_shows, bound_claim, round_claim, ceiling_claim, Right, search_claim, explain_claim}
 use Rattle.claims.proofs.SaveClaims.{save_claim}
 use Rattle.claims.proofs.RoundClaims.{round_done, round_keeps, round_settled}
 
@@ -322,6 +324,16 @@ module _ {g : Ledger} {b : List ℤ} (k : Keeps g b) (l : List ℕ) where
   unfolding requested
   good_save e = good_kind g b l kind.Save (saved b) e (save_kind k.study) k (save_claim k l)
 
+  good_explain : new_kind (kind_of l) ≡ Ok kind.Explain → FineExplain l b → Good g b l (requested (explain_request l) l b)
+  unfolding requested
+  good_explain e f =
+      let i = explain_train l in
+      let a = explain_choice l in
+      let r = reason_at b i a (explain_limit l) in
+      let there = explain_there k.study f in
+      good_kind g b l kind.Explain (answered b (reason_reply r)) e (reason_kind r) k
+      (explain_claim g l r (shown_low k.study i a (explain_limit l)) (reason_low k i a (explain_limit l) there.0) (partner_named k i a (explain_limit l)))
+
   good_clauses_line : new_kind (kind_of l) ≡ Ok kind.Clauses → clauses_verdict l ≡ Fine → Good g b l (requested (clauses_request l) l b)
   unfolding requested
   good_clauses_line e v = go (outcome_of l) refl
@@ -347,6 +359,7 @@ module _ {g : Ledger} {b : List ℤ} (k : Keeps g b) (l : List ℕ) where
   good_request Save m e = good_save e
   good_request Round m e = good_round e
   good_request (Clauses q) m e = as_asked (Clauses q) (clauses_request l) m.0 (good_clauses_line e m.1)
+  good_request (Explain q) m e = as_asked (Explain q) (explain_request l) m.0 (good_explain e (explain_fine l b m.1))
 
   -- 17, at once or for a reply that does not fit
   good_empty : Good g b l (answered b [])

@@ -5,6 +5,7 @@ use Rattle.std.specs.Prelude.{Result, Ok, Err}
 use mathlib.Core.Path.{◌≡◌, refl, sym, ap, subst}
 use mathlib.Core.Bool.{true, false, cond, ◌&&◌}
 use mathlib.Core.List.{List, [], ◌∷◌}
+use mathlib.Core.Logic.{inl, inr, ⊎_elim}
 use Prim.Native.Nat.{ℕ, zero, suc, ◌<◌, ◌≤◌}
 use Prim.Native.String.{String}
 use native.Mathlib.Omega.{arith}
@@ -22,7 +23,7 @@ use Rattle.refusals.specs.Verdicts.{first_of}
 use Rattle.tables.specs.Block.{trains, scale, pairs, constant, size, first, second, loaded_choice, loaded_entry}
 use Rattle.tables.specs.WellFormed.{fresh_block}
 use Rattle.tables.specs.Numbers.{is_cost, permits, paid}
-use Rattle.tables.specs.Plans.{Open, Branches, LeastOf, choice_total, pair_total, total, held_total}
+use Rattle.tables.specs.Plans.{Open, Branches, LeastOf, PairOf, choice_total, pair_total, total, held_total}
 use Rattle.bounds.specs.Bounds.{bound_of}
 use Rattle.clauses.specs.Clauses.{meets, failed, failed_weight}
 use Rattle.certificates.specs.Rival.{as_fraction, plus, times, sum_of, Same, AtMost, Rival, rival_total, IsRival, ConstantAtMost}
@@ -32,7 +33,7 @@ use Rattle.frames.specs.Fields.{field, signed}
 use Rattle.frames.specs.Frames.{all_digits, framed}
 use Rattle.frames.specs.Text.{codes}
 use Rattle.lines.specs.declared.kind.Kind.{Kind}
-use Rattle.lines.specs.declared.kind.Kind.TheVariants.{Load, Add, Shift, Tighten, Certify, Search, Save, Round, Clauses}
+use Rattle.lines.specs.declared.kind.Kind.TheVariants.{Load, Add, Shift, Tighten, Certify, Search, Save, Round, Clauses, Explain}
 use Rattle.lines.specs.declared.request.Line.TheVariants.{Asked, Refused}
 use Rattle.lines.specs.Kinds.{new_kind}
 use Rattle.lines.specs.Layout.{pair_at}
@@ -319,6 +320,34 @@ module _ {b : List ℤ} where
   without_on_j : AtLine j b (told "06" "860200000004FFFFFFFFFFFFFFFF") → ⊥
   unfolding told load j plan
   without_on_j a = (line_claim a Search refl).none refl (plan 0 1) plan_01
+
+  -- 01 of choice 1 of train 1 at a limit of 3: plan 01 costs 2
+  own_above : AtLine j b (told "0A010100000003" "8A01FF") → ⊥
+  unfolding told load j plan
+  own_above a = let h : 3 ≤ 2 = (line_claim a Explain refl).costs (inl refl) (plan 0 1) plan_01 refl in omega arith
+
+  -- 02 of it
+  pair_above : AtLine j b (told "0A010100000003" "8A0200") → ⊥
+  unfolding told load j plan
+  pair_above a = let h : 3 ≤ 2 = (line_claim a Explain refl).costs (inr refl) (plan 0 1) plan_01 refl in omega arith
+
+  -- the train that is asked about as its own partner
+  own_partner : AtLine j b (told "0A010100000001" "8A0201") → ⊥
+  unfolding told load j
+  own_partner a =
+      let n = (line_claim a Explain refl).named refl in
+      at_one (λ k. PairOf j.shape 1 1 k → ⊥)
+      (λ t. ⊎_elim (λ (q : (0 ≡ 1) × (1 ≡ 1)). omega (arith, q.0)) (λ (q : (1 ≡ 1) × (0 ≡ 1)). omega (arith, q.1)) t) n.pair n.there n.trains
+
+  -- a partner beside 01
+  partner_of_01 : AtLine j b (told "0A010100000000" "8A0100") → ⊥
+  unfolding told
+  partner_of_01 a = let h : ◌≡◌ {A = ℕ} 0 255 = (line_claim a Explain refl).unnamed (λ (e : ◌≡◌ {A = ℕ} 1 2). omega (arith, e)) in omega arith
+
+  -- a reason 03
+  fourth_reason : AtLine j b (told "0A010100000000" "8A03FF") → ⊥
+  unfolding told
+  fourth_reason a = let h : 3 ≤ 2 = (line_claim a Explain refl).reason in omega arith
 
 -- ---- replies to a round of the branch line
 

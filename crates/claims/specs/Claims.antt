@@ -1,25 +1,26 @@
 -- Demand 3 of document 01, as one claim about a whole list of calls from a fresh block. Nothing else stands in this file; `demand` in proofs/Demand.antt proves it. What follows from each
 -- part of it, so that it cannot be said more weakly unseen, stands in proofs/Uses.antt and proofs/UsesForbidden.antt; the name of the law there is in brackets.
-use Rattle.std.specs.Prelude.{◌≡◌, Bool, true, false, List, [], ◌∷◌, ℕ, ◌*◌, ◌-◌, ◌<◌, ◌≤◌, ◌^◌, eqb, ℤ, Ok}
+use Rattle.std.specs.Prelude.{◌≡◌, Bool, true, false, List, [], ◌∷◌, ◌⊎◌, ℕ, ◌*◌, ◌-◌, ◌<◌, ◌≤◌, ◌^◌, eqb, ℤ, Ok}
 use Rattle.tables.specs.Block.{held_choice_place, held_entry_place, at, trains, scale, pairs, constant, size, first, second, loaded_choice, loaded_entry}
 use Rattle.tables.specs.WellFormed.{is_open, well_formed, fresh_block}
-use Rattle.tables.specs.Plans.{AlikeShapes, Costs, IsPlan, Open, Branches, LeastOf, shape_of, held_total}
+use Rattle.tables.specs.Plans.{AlikeShapes, Costs, IsPlan, Open, Branches, LeastOf, PairOf, shape_of, held_total}
 use Rattle.tables.specs.Counts.{rows_of, columns_of}
 use Rattle.bounds.specs.Bounds.{bound_of}
 use Rattle.certificates.specs.Rival.{Rival, IsRival, ConstantAtMost}
 use Rattle.weights.specs.Rival.{Amounts, Leaves, LiftsAtMost}
+use Rattle.reasons.specs.Reasons.{no_partner}
 use Rattle.lines.specs.declared.kind.Kind.{Kind}
-use Rattle.lines.specs.declared.kind.Kind.TheVariants.{Load, Add, Shift, Tighten, Certify, Search, Save, Round, Clauses}
+use Rattle.lines.specs.declared.kind.Kind.TheVariants.{Load, Add, Shift, Tighten, Certify, Search, Save, Round, Clauses, Explain}
 use Rattle.lines.specs.declared.request.Line.TheVariants.{Asked}
 use Rattle.lines.specs.Kinds.{kind_number, new_kind}
-use Rattle.lines.specs.Layout.{kind_of}
+use Rattle.lines.specs.Layout.{kind_of, explain_train, explain_choice, explain_limit}
 use Rattle.clauses.specs.Clauses.{failed_weight}
 use Rattle.kinds.specs.Load.{load_request}
 use Rattle.decoding.specs.Numbers.{numbers_of}
 use Rattle.decoding.specs.Clauses.{clauses_of}
 use Rattle.reader.specs.Reading.{line_of}
 use Rattle.replies.specs.Replies.{choice_width, refusal_byte, reply_kind, flag}
-use Rattle.replies.specs.Shown.{kind_shown, accepted, number_shown, constant_shown, bound_shown, flag_shown, weighted_shown, full_weight_shown, says_ended, says_ended_without, cost_shown, plan_shown, shows_plan}
+use Rattle.replies.specs.Shown.{kind_shown, accepted, number_shown, constant_shown, bound_shown, flag_shown, weighted_shown, full_weight_shown, says_ended, says_ended_without, cost_shown, plan_shown, shows_plan, reason_shown, train_shown}
 use Rattle.service.specs.Calls.{Call, Exchange, last_block, blocks, exchanges}
 use Rattle.claims.specs.Ledger.{Ledger, numbers_ledger, by_kind, fed, ledger_of, empty_ledger, cost_of, has_load}
 
@@ -116,6 +117,23 @@ pub record ClausesClaim (g : Ledger) (e : Exchange) : Type 0 where
   -- 'Each plan's total in H must be the weights of the clauses it fails', by the literals of the line (`other_weights`)
   pub weights : (x : ℕ → ℕ) → PlanOf g x → cost_of g x ≡ failed_weight (clauses_of e.line) x
 
+-- trains i and j share a pair
+pub record Partners (g : Ledger) (i j : ℕ) : Type 0 where
+  pub pair : ℕ
+  pub there : pair < g.shape.pairs
+  pub trains : PairOf g.shape i j pair
+
+-- document 02, change 8: 'The reply is 8A, reason, train, the last FF unless 02'
+pub record ExplainClaim (g : Ledger) (e : Exchange) : Type 0 where
+  -- '00 means neither', or 01 or 02 stands (`fourth_reason`)
+  pub reason : reason_shown e.reply ≤ 2
+  -- 'where 01 or 02 stands, every plan with that choice costs the limit or more', by the train, the choice and the limit of the line (`own_above`, `pair_above`)
+  pub costs : (reason_shown e.reply ≡ 1) ⊎ (reason_shown e.reply ≡ 2) → (x : ℕ → ℕ) → PlanOf g x → x (explain_train e.line) ≡ explain_choice e.line → explain_limit e.line ≤ cost_of g x
+  -- 'The partner in the first such pair .. is named' (`own_partner`)
+  pub named : reason_shown e.reply ≡ 2 → Partners g (explain_train e.line) (train_shown e.reply)
+  -- 'the last FF unless 02' (`partner_of_01`)
+  pub unnamed : (reason_shown e.reply ≡ 2 → ⊥) → train_shown e.reply ≡ no_partner
+
 -- each kind's own (`high_bound`, `high_added`, `high_shifted`, `high_tightened`)
 abbrev pub Claim : Kind → Ledger → List ℤ → Exchange → Type 0
 Claim Load g b e = BoundClaim g e
@@ -127,8 +145,9 @@ Claim Search g b e = SearchClaim g e
 Claim Save g b e = SaveClaim g e
 Claim Round g b e = RoundClaim g e
 Claim Clauses g b e = ClausesClaim g e
+Claim Explain g b e = ExplainClaim g e
 
--- 'Kinds 01 to 04: 81 to 84', 'Certify: 85', 'Search: 86'; of a round 88, of clauses 89; a save's reply, a load line, begins with 01
+-- 'Kinds 01 to 04: 81 to 84', 'Certify: 85', 'Search: 86'; of a round 88, of clauses 89, of a reason 8A; a save's reply, a load line, begins with 01
 abbrev pub shown_kind : Kind → ℕ
 shown_kind Load = reply_kind Load
 shown_kind Add = reply_kind Add
@@ -139,6 +158,7 @@ shown_kind Search = reply_kind Search
 shown_kind Save = kind_number Load
 shown_kind Round = reply_kind Round
 shown_kind Clauses = reply_kind Clauses
+shown_kind Explain = reply_kind Explain
 
 pub record AtLine (g : Ledger) (b : List ℤ) (e : Exchange) : Type 0 where
   -- 'The first byte is the kind': an accepted line has one (`no_kind`)
@@ -162,6 +182,7 @@ never_outside Search = false
 never_outside Save = false
 never_outside Round = true
 never_outside Clauses = false
+never_outside Explain = false
 
 pub record AtCall (g : Ledger) (b : List ℤ) (e : Exchange) : Type 0 where
   -- 'A line is accepted if its reply isn't empty and doesn't begin with FF'

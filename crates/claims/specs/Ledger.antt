@@ -4,7 +4,7 @@ use Rattle.std.specs.Prelude.{Bool, true, false, cond, ◌&&◌, List, [], ◌�
 use Rattle.tables.specs.Numbers.{Numbers, numbers, numbers_shape, numbers_costs}
 use Rattle.tables.specs.Plans.{Shape, Costs, total}
 use Rattle.lines.specs.declared.kind.Kind.{Kind}
-use Rattle.lines.specs.declared.kind.Kind.TheVariants.{Load, Add, Shift, Tighten, Certify, Search, Save, Round, Clauses}
+use Rattle.lines.specs.declared.kind.Kind.TheVariants.{Load, Add, Shift, Tighten, Certify, Search, Save, Round, Clauses, Explain}
 use Rattle.lines.specs.Kinds.{new_kind}
 use Rattle.lines.specs.Layout.{kind_of, add_train, add_choice, add_points}
 use Rattle.decoding.specs.Numbers.{numbers_of}
@@ -64,6 +64,7 @@ changed Search l g = g
 changed Save l g = g
 changed Round l g = g
 changed Clauses l g = numbers_ledger (clause_numbers_of l)
+changed Explain l g = g
 
 -- 'a list with an accepted load': the kinds that load; a line of clauses 'counts as an accepted load'
 abbrev pub loads : Kind → Bool
@@ -76,6 +77,7 @@ loads Search = false
 loads Save = false
 loads Round = false
 loads Clauses = true
+loads Explain = false
 
 -- ---- lists of lines with their replies
 

@@ -9,10 +9,28 @@ use Rattle.refusals.proofs.Verdicts.{then_fine}
 use Rattle.tables.specs.Block.{max_cost, trains, size}
 use Rattle.tables.specs.LineLimits.{max_move, max_full_weight, max_budget}
 use Rattle.frames.specs.Digits.{bytes}
-use Rattle.lines.specs.Layout.{end_of, further, below, add_train_field, add_train, add_choice_field, add_choice, points_field, add_points, lift_field, move_field, shift_lift, shift_move, full_weight_field, certify_full_weight, weight_field, budget_field, search_budget}
+use Rattle.lines.specs.declared.field.Field.{Field}
+use Rattle.lines.specs.Layout.{end_of, further, below, add_train_field, add_train, add_choice_field, add_choice, points_field, add_points, lift_field, move_field, shift_lift, shift_move, full_weight_field, certify_full_weight, weight_field, budget_field, search_budget, explain_train, explain_choice, limit_field}
 use Rattle.lines.specs.Verdicts.{field_verdict, last_verdict}
 use Rattle.lines.proofs.Judged.{field-within, run_within_lem, run_around, last_fine, runs_fine}
-use Rattle.kinds.specs.Lines.{add_verdict, shift_verdict, certify_verdict, search_verdict}
+use Rattle.kinds.specs.Lines.{choice_verdict, add_verdict, shift_verdict, certify_verdict, search_verdict, explain_verdict}
+
+-- ---- a train and a choice, before a last field
+
+pub record FineChoice (l : List ℕ) (b : List ℤ) (f : Field) : Type 0 where
+  pub train : add_train l ≤ trains b - 1
+  pub choice : add_choice l ≤ size b (add_train l) - 1
+  pub last : field_verdict l f ≡ Fine
+  pub ends : bytes l ≡ end_of f
+
+pub choice_fine : (l : List ℕ) (b : List ℤ) (f : Field) → choice_verdict l b f ≡ Fine → FineChoice l b f
+choice_fine l b f e =
+    let train = below add_train_field (trains b) in
+    let choice = below add_choice_field (size b (add_train l)) in
+    let v = then_fine (field_verdict l train) (then (field_verdict l choice) (last_verdict l f)) e in
+    let w = then_fine (field_verdict l choice) (last_verdict l f) v.1 in
+    let h = last_fine l f w.1 in
+    record { train = (field-within l train refl v.0).1.1; choice = (field-within l choice refl w.0).1.1; last = h.0; ends = h.1 }
 
 -- ---- 02 add
 
@@ -25,17 +43,8 @@ pub record FineAdd (l : List ℕ) (b : List ℤ) : Type 0 where
 pub add_fine : (l : List ℕ) (b : List ℤ) → add_verdict l b ≡ Fine → FineAdd l b
 unfolding add_verdict
 add_fine l b e =
-    let train = below add_train_field (trains b) in
-    let choice = below add_choice_field (size b (add_train l)) in
-    let f = then_fine (field_verdict l train) (then (field_verdict l choice) (last_verdict l points_field)) e in
-    let g = then_fine (field_verdict l choice) (last_verdict l points_field) f.1 in
-    let h = last_fine l points_field g.1 in
-    record {
-      train = (field-within l train refl f.0).1.1;
-      choice = (field-within l choice refl g.0).1.1;
-      points = (field-within l points_field refl h.0).1.1;
-      ends = h.1;
-    }
+    let f = choice_fine l b points_field e in
+    record { train = f.train; choice = f.choice; points = (field-within l points_field refl f.last).1.1; ends = f.ends }
 
 -- ---- 03 shift
 
@@ -73,3 +82,16 @@ unfolding search_verdict
 search_fine l e =
     let f = last_fine l budget_field e in
     record { budget = (field-within l budget_field refl f.0).1; ends = f.1 }
+
+-- ---- 0A, why a choice is out: its limit is any number
+
+pub record FineExplain (l : List ℕ) (b : List ℤ) : Type 0 where
+  pub train : explain_train l ≤ trains b - 1
+  pub choice : explain_choice l ≤ size b (explain_train l) - 1
+  pub ends : bytes l ≡ end_of limit_field
+
+pub explain_fine : (l : List ℕ) (b : List ℤ) → explain_verdict l b ≡ Fine → FineExplain l b
+unfolding explain_verdict
+explain_fine l b e =
+    let f = choice_fine l b limit_field e in
+    record { train = f.train; choice = f.choice; ends = f.ends }

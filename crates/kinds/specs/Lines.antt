@@ -11,13 +11,14 @@ use Rattle.tables.specs.Counts.{move_count, weight_count}
 use Rattle.frames.specs.Digits.{bytes}
 use Rattle.lines.specs.declared.kind.Kind.{Kind}
 use Rattle.lines.specs.declared.kind.Kind.TheVariants as kind
+use Rattle.lines.specs.declared.field.Field.{Field}
 use Rattle.lines.specs.declared.request.Request.{Request}
-use Rattle.lines.specs.declared.request.Request.TheVariants.{Add, Shift, Tighten, Certify, Search, Save, Round}
+use Rattle.lines.specs.declared.request.Request.TheVariants.{Add, Shift, Tighten, Certify, Search, Save, Round, Explain}
 use Rattle.lines.specs.declared.request.Line.{Line}
 use Rattle.lines.specs.declared.request.Line.TheVariants.{Refused}
 use Rattle.lines.specs.Kinds.{needs_study}
 use Rattle.lines.specs.Asked.{request_if, line_from}
-use Rattle.lines.specs.Layout.{kind_width, below, add_train_field, add_train, add_choice_field, add_choice, points_field, add_points, lift_field, move_field, full_weight_field, certify_full_weight, weight_field, budget_field, search_budget}
+use Rattle.lines.specs.Layout.{kind_width, below, add_train_field, add_train, add_choice_field, add_choice, points_field, add_points, lift_field, move_field, full_weight_field, certify_full_weight, weight_field, budget_field, search_budget, explain_train, explain_choice, limit_field, explain_limit}
 use Rattle.lines.specs.Verdicts.{field_verdict, end_verdict, last_verdict, runs_verdict, field_run}
 use Rattle.kinds.specs.Load.{load_verdict, load_request}
 use Rattle.kinds.specs.Clauses.{clauses_verdict, clauses_request}
@@ -26,11 +27,14 @@ use Rattle.kinds.specs.Clauses.{clauses_verdict, clauses_request}
 abbrev pub bare_verdict : List ℕ → Verdict
 bare_verdict l = end_verdict (bytes l) kind_width
 
--- 9: 'train or choice absent'
-unfoldable pub add_verdict : List ℕ → List ℤ → Verdict
-add_verdict l b =
+-- a train, a choice and a last field; 9: 'train or choice absent'
+abbrev pub choice_verdict : List ℕ → List ℤ → Field → Verdict
+choice_verdict l b f =
     then (field_verdict l (below add_train_field (trains b)))
-    (then (field_verdict l (below add_choice_field (size b (add_train l)))) (last_verdict l points_field))
+    (then (field_verdict l (below add_choice_field (size b (add_train l)))) (last_verdict l f))
+
+unfoldable pub add_verdict : List ℕ → List ℤ → Verdict
+add_verdict l b = choice_verdict l b points_field
 
 abbrev pub add_request : List ℕ → Request
 add_request l = Add (record { train = add_train l; choice = add_choice l; points = the_points (add_points l) })
@@ -55,6 +59,13 @@ search_verdict l = last_verdict l budget_field
 abbrev pub search_request : List ℕ → Request
 search_request l = Search (record { budget = search_budget l })
 
+-- document 02, change 8: '9 applies'
+unfoldable pub explain_verdict : List ℕ → List ℤ → Verdict
+explain_verdict l b = choice_verdict l b limit_field
+
+abbrev pub explain_request : List ℕ → Request
+explain_request l = Explain (record { train = explain_train l; choice = explain_choice l; limit = the_points (explain_limit l) })
+
 -- ---- by kind
 
 abbrev pub concluded : Verdict → Request → Line
@@ -71,6 +82,7 @@ kind_verdict kind.Search l b = search_verdict l
 kind_verdict kind.Save l b = bare_verdict l
 kind_verdict kind.Round l b = bare_verdict l
 kind_verdict kind.Clauses l b = clauses_verdict l
+kind_verdict kind.Explain l b = explain_verdict l b
 
 abbrev pub kind_request : Kind → List ℕ → List ℤ → Request
 kind_request kind.Load l b = load_request l
@@ -82,6 +94,7 @@ kind_request kind.Search l b = search_request l
 kind_request kind.Save l b = Save
 kind_request kind.Round l b = Round
 kind_request kind.Clauses l b = clauses_request l
+kind_request kind.Explain l b = explain_request l
 
 abbrev pub fields_asked : Kind → List ℕ → List ℤ → Result Request Refusal
 fields_asked k l b = request_if (kind_verdict k l b) (kind_request k l b)

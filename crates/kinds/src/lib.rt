@@ -16,6 +16,7 @@ mod add;
 mod bare;
 mod certify;
 pub mod clause_fields;
+mod explain_fields;
 pub mod load;
 mod search;
 mod shift;
@@ -39,6 +40,7 @@ pub fn read_fields(frame: Frame<'_>, kind: Kind, block: Block<'_>) -> Result<Req
         (Kind::Search, Block::Held(_)) => search::read_search(frame),
         (Kind::Save, Block::Held(_)) => bare::read_bare(frame, Request::Save),
         (Kind::Round, Block::Held(_)) => bare::read_bare(frame, Request::Round),
+        (Kind::Explain, Block::Held(study)) => explain_fields::read_explain(frame, study),
         (_, Block::Fresh) => unreachable!(),
     }
 }

@@ -5,9 +5,9 @@ use Rattle.refusals.specs.declared.Refusal.TheVariants.{NoKind}
 use Rattle.lines.specs.declared.kind.Kind.{Kind}
 use Rattle.lines.specs.declared.kind.Kind.TheVariants as kind
 use Rattle.lines.specs.declared.request.Request.{Request}
-use Rattle.lines.specs.declared.request.Request.TheVariants.{Load, Add, Shift, Tighten, Certify, Search, Save, Round, Clauses}
+use Rattle.lines.specs.declared.request.Request.TheVariants.{Load, Add, Shift, Tighten, Certify, Search, Save, Round, Clauses, Explain}
 
--- '01 load', '02 add', '03 shift', '04 tighten', '05 certify', '06 search'; document 02: 'Kind 07', a save, 'Kind 08', a directional round, 'Kind 09', a study written as clauses
+-- '01 load', '02 add', '03 shift', '04 tighten', '05 certify', '06 search'; document 02: 'Kind 07', a save, 'Kind 08', a directional round, 'Kind 09', a study written as clauses, 'Kind 0A', why a choice is out
 abbrev pub kind_number : Kind → ℕ
 kind_number kind.Load = 1
 kind_number kind.Add = 2
@@ -18,6 +18,7 @@ kind_number kind.Search = 6
 kind_number kind.Save = 7
 kind_number kind.Round = 8
 kind_number kind.Clauses = 9
+kind_number kind.Explain = 10
 
 -- this kind where the number is its own
 abbrev pub kind_if : Kind → ℕ → Result Kind Refusal → Result Kind Refusal
@@ -35,6 +36,7 @@ all_kinds =
     ∷ kind.Save
     ∷ kind.Round
     ∷ kind.Clauses
+    ∷ kind.Explain
     ∷ []
 
 -- the kind of these that has this number, or 3 where none has
@@ -46,7 +48,7 @@ kind_among (k ∷ kinds) n = kind_if k n (kind_among kinds n)
 unfoldable pub new_kind : ℕ → Result Kind Refusal
 new_kind n = kind_among all_kinds n
 
--- 4: 'kinds 02-06 on a fresh block', 07 and 08; 09 loads
+-- 4: 'kinds 02-06 on a fresh block', 07, 08 and 0A; 09 loads
 abbrev pub needs_study : Kind → Bool
 needs_study kind.Load = false
 needs_study kind.Add = true
@@ -57,6 +59,7 @@ needs_study kind.Search = true
 needs_study kind.Save = true
 needs_study kind.Round = true
 needs_study kind.Clauses = false
+needs_study kind.Explain = true
 
 -- the kind of a request
 abbrev pub request_kind : Request → Kind
@@ -69,3 +72,4 @@ request_kind (Search q) = kind.Search
 request_kind Save = kind.Save
 request_kind Round = kind.Round
 request_kind (Clauses q) = kind.Clauses
+request_kind (Explain q) = kind.Explain

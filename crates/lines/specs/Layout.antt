@@ -242,3 +242,21 @@ clause_second l k = signed_in l (second_literal_field k)
 
 abbrev pub clause_weight : List ℕ → ℕ → ℕ
 clause_weight l k = number_in l (clause_weight_field k)
+
+-- ---- 0A, document 02, change 8: 'train, choice, limit in points (4)'; train and choice stand where an add has them, and '9 applies'
+
+abbrev pub explain_train : List ℕ → ℕ
+explain_train l = add_train l
+
+abbrev pub explain_choice : List ℕ → ℕ
+explain_choice l = add_choice l
+
+abbrev pub limit_width : ℕ
+limit_width = 4
+
+-- a limit is any number of its width
+abbrev pub limit_field : Field
+limit_field = field_as (end_of add_choice_field) limit_width Any Fields
+
+abbrev pub explain_limit : List ℕ → ℕ
+explain_limit l = number_in l limit_field

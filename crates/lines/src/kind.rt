@@ -15,6 +15,7 @@ pub enum Kind {
     Save,
     Round,
     Clauses,
+    Explain,
 }
 
 impl Kind {
@@ -22,7 +23,7 @@ impl Kind {
     pub const WIDTH: usize = 1;
 
     // Whether a line of this kind is declined on a fresh block.
-    // A rule of document 01 in one `matches!`: no derive or method tells two kinds from seven.
+    // A rule of document 01 in one `matches!`: no derive or method tells two kinds from eight.
     pub fn needs_study(self) -> bool
         ensures { result ≡ needs_study self }
     {
@@ -51,6 +52,7 @@ impl TryFrom<u64> for Kind {
             7 => Ok(Kind::Save),
             8 => Ok(Kind::Round),
             9 => Ok(Kind::Clauses),
+            10 => Ok(Kind::Explain),
             _ => Err(Refusal::NoKind),
         }
     }
@@ -74,6 +76,7 @@ impl From<Kind> for u64 {
             Kind::Save => 7,
             Kind::Round => 8,
             Kind::Clauses => 9,
+            Kind::Explain => 10,
         }
     }
 }

@@ -1,4 +1,4 @@
-// Document 01, 'Lines': a read line is either a refusal or one of nine requests, each with its own fields. Offsets, in bytes, stand for long fields.
+// Document 01, 'Lines': a read line is either a refusal or one of ten requests, each with its own fields. Offsets, in bytes, stand for long fields.
 use crate::field::Field;
 use refusals::Refusal;
 use tables::block::Block;
@@ -88,6 +88,19 @@ impl Clauses {
     pub const MOST: usize = 500;
 }
 
+// The question whether a choice reaches a limit.
+#[derive(Clone, Copy)]
+pub struct Explain {
+    pub train: usize,
+    pub choice: usize,
+    pub limit: Points,
+}
+
+impl Explain {
+    // How many bytes a limit has.
+    pub const LIMIT_WIDTH: usize = 4;
+}
+
 #[derive(Clone, Copy)]
 pub enum Request {
     Load(Load),
@@ -99,6 +112,7 @@ pub enum Request {
     Save,
     Round,
     Clauses(Clauses),
+    Explain(Explain),
 }
 
 // What a line asks, or why it is declined: an enum of its own and no Result, as document 01's Forms ask.

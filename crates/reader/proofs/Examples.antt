@@ -1,5 +1,5 @@
 -- Document 01's own examples, computed: each row of 'What is declined' that the reader judges, 11 with the limits of document 02, change 3; the lines that only a later rule declines, marked cases 11 and 12; and document 02, change 5: FFFFFF in a load, FFFFFE,
--- FFFFFF in an add; and change 7: lines of clauses.
+-- FFFFFF in an add; change 7: lines of clauses; and change 8: train, choice and limit.
 use mathlib.Core.Bool.{Bool, true, false, cond, ◌&&◌}
 use mathlib.Core.List.{List, [], ◌∷◌, ◌++◌}
 use Prim.Native.Nat.{ℕ}
@@ -26,7 +26,7 @@ use Rattle.lines.specs.Layout.{pair_at}
 use Rattle.lines.specs.Verdicts.{field_verdict, runs_verdict, last_verdict}
 use Rattle.kinds.specs.Load.{pair_ordered, pair_verdict, head_verdict, rest_verdict, load_verdict}
 use Rattle.kinds.specs.Clauses.{clause_verdict, clause_run_verdict, clauses_verdict}
-use Rattle.kinds.specs.Lines.{add_verdict, shift_verdict, certify_verdict, search_verdict, study_line}
+use Rattle.kinds.specs.Lines.{add_verdict, shift_verdict, certify_verdict, search_verdict, explain_verdict, study_line}
 use Rattle.reader.specs.Reading.{kind_line, line_of}
 
 -- ---- the two blocks
@@ -76,7 +76,7 @@ number_of (Asked q) = 0
 number_of (Refused r) = refusal_number r
 
 pub holds : Case → Bool
-unfolding j put put_choice put_entry is_cost number_of digit byte_at field signed all_digits framed pair_at first_of field_verdict last_verdict runs_verdict pair_ordered pair_verdict head_verdict rest_verdict load_verdict literals_right clause_verdict clause_run_verdict clauses_verdict add_verdict shift_verdict certify_verdict search_verdict new_kind study_line kind_line line_of is_fresh is_zero pass before figure sum
+unfolding j put put_choice put_entry is_cost number_of digit byte_at field signed all_digits framed pair_at first_of field_verdict last_verdict runs_verdict pair_ordered pair_verdict head_verdict rest_verdict load_verdict literals_right clause_verdict clause_run_verdict clauses_verdict add_verdict shift_verdict certify_verdict search_verdict explain_verdict new_kind study_line kind_line line_of is_fresh is_zero pass before figure sum
 holds c = eqb (number_of (line_of c.line (cond c.loaded j fresh_block))) c.number
 
 pub every : List Case → Bool
@@ -92,7 +92,7 @@ cases =
     ∷ row "ff" false 1
     ∷ long "" 19835 false 2
     ∷ row "FF" false 3
-    ∷ row "0A" true 3
+    ∷ row "0B" true 3
     ∷ row "10" true 3
     ∷ row "07" false 4
     ∷ row "0700" false 4
@@ -148,6 +148,14 @@ cases =
     ∷ row "090200010001010200000100" false 5
     ∷ row "0902000100010102FFFFFF" false 7
     ∷ row "09020001000101020F4241" false 7
+    ∷ row "0A000000000001" false 4
+    ∷ row "0A" true 5
+    ∷ row "0A02" true 9
+    ∷ row "0A0002" true 9
+    ∷ row "0A000000000A" true 5
+    ∷ row "0A00000000000A00" true 5
+    ∷ row "0A000000000000" true 0
+    ∷ row "0A0101FFFFFFFF" true 0
     ∷ []
 
 pub cases_hold : T (every cases)

@@ -2,7 +2,7 @@
 use mathlib.Core.Path.{◌≡◌, refl, sym, subst}
 use mathlib.Core.Bool.{Bool, true, false, cond, ◌&&◌}
 use mathlib.Core.List.{List}
-use Prim.Native.Nat.{ℕ, ◌<◌, ◌^◌}
+use Prim.Native.Nat.{ℕ, ◌-◌, ◌<◌, ◌≤◌, ◌^◌}
 use native.Mathlib.Omega.{arith}
 use lib.IntN.{ℤ}
 use Rattle.std.specs.Prelude.{Result, Ok, Err}
@@ -22,9 +22,9 @@ use Rattle.lines.specs.declared.request.Request.{Request}
 use Rattle.lines.specs.declared.request.Line.{Line}
 use Rattle.lines.specs.declared.request.Line.TheVariants.{Asked, Refused}
 use Rattle.lines.specs.Kinds.{new_kind, needs_study, request_kind}
-use Rattle.lines.specs.Layout.{kind_of, number_in, further, weight_width, weight_field, add_train, add_choice}
+use Rattle.lines.specs.Layout.{kind_of, number_in, further, weight_width, weight_field, add_train, add_choice, explain_train, explain_choice, limit_width, limit_field, explain_limit}
 use Rattle.kinds.specs.Lines.{concluded, kind_verdict, kind_request, study_line}
-use Rattle.kinds.proofs.Accepted.{FineAdd, FineCertify}
+use Rattle.kinds.proofs.Accepted.{FineAdd, FineCertify, FineExplain}
 use Rattle.reader.specs.Reading.{new_kind_line, kind_line, framed_line, line_of}
 
 -- a line that concludes with a request made it
@@ -100,11 +100,21 @@ pub frame_length : {l : List ℕ} → Framed l (bytes l) → Whole l
 frame_length {l} f = framed_whole l f.digits
 
 -- 9 excludes a train or a choice that is not there
+there : {b : List ℤ} (i a : ℕ) → Study b → i ≤ trains b - 1 → a ≤ size b i - 1 → (i < trains b) × (a < size b i)
+there {b} i a s train choice =
+    let t : i < trains b = omega (arith, train, trains_range s) in
+    (t, omega (arith, choice, size_range s i t))
+
 pub add_there : {l : List ℕ} {b : List ℤ} → Study b → FineAdd l b → (add_train l < trains b) × (add_choice l < size b (add_train l))
-add_there {l} {b} s f =
-    let t : add_train l < trains b = omega (arith, f.train, trains_range s) in
-    (t, omega (arith, f.choice, size_range s (add_train l) t))
+add_there {l} {b} s f = there (add_train l) (add_choice l) s f.train f.choice
+
+pub explain_there : {l : List ℕ} {b : List ℤ} → Study b → FineExplain l b → (explain_train l < trains b) × (explain_choice l < size b (explain_train l))
+explain_there {l} {b} s f = there (explain_train l) (explain_choice l) s f.train f.choice
 
 -- a weight is any number of 3 bytes
 pub weight_below : {l : List ℕ} {weights : ℕ} → Whole l → FineCertify l weights → (k : ℕ) → k < weights → number_in l (further weight_field k) < 2 ^ 24
 weight_below {l} {weights} w f k h = field_below w (further weight_field k).at weight_width (omega (arith, part_inside weight_width k weights h, f.ends))
+
+-- a limit is any number of 4 bytes
+pub limit_below : {l : List ℕ} {b : List ℤ} → Whole l → FineExplain l b → explain_limit l < 2 ^ 32
+limit_below {l} {b} w f = field_below w limit_field.at limit_width (omega (arith, f.ends))

@@ -20,17 +20,17 @@ use Rattle.clauses.specs.Clauses.{literals_right}
 use Rattle.frames.specs.Frames.{max_characters, framed, new_frame}
 use Rattle.frames.specs.Digits.{bytes}
 use Rattle.lines.specs.declared.kind.Kind.{Kind}
-use Rattle.lines.specs.declared.kind.Kind.TheVariants.{Load, Add, Shift, Tighten, Certify, Search, Save, Round, Clauses}
+use Rattle.lines.specs.declared.kind.Kind.TheVariants.{Load, Add, Shift, Tighten, Certify, Search, Save, Round, Clauses, Explain}
 use Rattle.lines.specs.declared.field.Field.{Field}
 use Rattle.lines.specs.declared.request.Request.{Request}
 use Rattle.lines.specs.declared.request.Line.{Line}
 use Rattle.lines.specs.declared.request.Line.TheVariants.{Asked, Refused}
 use Rattle.lines.specs.Kinds.{kind_number, kind_if, all_kinds, kind_among, new_kind, needs_study}
-use Rattle.lines.specs.Layout.{kind_width, kind_of, number_in, further, trains_field, scale_field, size_field, pair_count_field, add_train, points_field, lift_field, move_field, full_weight_field, weight_field, budget_field, load_trains, load_pairs, choice_count, entry_count, pair_at, end_of, below, choice_field, entry_field, add_train_field, add_choice_field, clause_count_field, clause_count, clause_at, clause_weight_field, clause_first, clause_second}
+use Rattle.lines.specs.Layout.{kind_width, kind_of, number_in, further, trains_field, scale_field, size_field, pair_count_field, add_train, points_field, lift_field, move_field, full_weight_field, weight_field, budget_field, load_trains, load_pairs, choice_count, entry_count, pair_at, end_of, below, choice_field, entry_field, add_train_field, add_choice_field, clause_count_field, clause_count, clause_at, clause_weight_field, clause_first, clause_second, limit_field}
 use Rattle.lines.specs.Verdicts.{obeys, field_verdict, run_verdict, end_verdict, runs_verdict, last_verdict}
 use Rattle.kinds.specs.Load.{pair_ordered, pair_verdict, head_verdict, rest_verdict, load_verdict}
 use Rattle.kinds.specs.Clauses.{clause_verdict, clause_run_verdict, clauses_verdict}
-use Rattle.kinds.specs.Lines.{add_verdict, shift_verdict, certify_verdict, search_verdict, concluded, kind_verdict, study_line}
+use Rattle.kinds.specs.Lines.{choice_verdict, add_verdict, shift_verdict, certify_verdict, search_verdict, explain_verdict, concluded, kind_verdict, study_line}
 use Rattle.reader.specs.Reading.{new_kind_line, kind_line, framed_line, line_of}
 
 -- 'Order: 17, 16, .. Then fields .. Then 10, 12 or 14': the numbers that reading a line gives are the others
@@ -102,11 +102,14 @@ module _ (l : List ℕ) where
       (reads_then (reads_field (pair_count_field l) refl)
       (reads_then (reads_first (load_pairs l) (pair_verdict l) reads_pair) (reads_end (pair_at l (load_pairs l)))))))
 
+  reads_choice : (b : List ℤ) (f : Field) → Own f.refusal → Reads (choice_verdict l b f)
+  reads_choice b f o =
+      reads_then (reads_field (below add_train_field (trains b)) refl)
+      (reads_then (reads_field (below add_choice_field (size b (add_train l))) refl) (reads_last f o))
+
   reads_add : (b : List ℤ) → Reads (add_verdict l b)
   unfolding add_verdict
-  reads_add b =
-      reads_then (reads_field (below add_train_field (trains b)) refl)
-      (reads_then (reads_field (below add_choice_field (size b (add_train l))) refl) (reads_last points_field refl))
+  reads_add b = reads_choice b points_field refl
 
   reads_shift : (n moves : ℕ) → Reads (shift_verdict l n moves)
   unfolding shift_verdict
@@ -132,6 +135,10 @@ module _ (l : List ℕ) where
       reads_then (reads_then (reads_field trains_field refl) (reads_field scale_field refl))
       (reads_then (reads_field clause_count_field refl)
       (reads_then (reads_first (clause_count l) (clause_verdict l) reads_clause) (reads_end (clause_at (clause_count l)))))
+
+  reads_explain : (b : List ℤ) → Reads (explain_verdict l b)
+  unfolding explain_verdict
+  reads_explain b = reads_choice b limit_field refl
 
 -- ---- the line
 
@@ -179,6 +186,7 @@ module _ (l : List ℕ) (b : List ℤ) where
   reads_kind Save = reads_end l kind_width
   reads_kind Round = reads_end l kind_width
   reads_kind Clauses = reads_clauses l
+  reads_kind Explain = reads_explain l b
 
   own_study : (k : Kind) → OwnLine (study_line k l b)
   unfolding study_line

@@ -12,13 +12,14 @@ use Rattle.refusals.specs.declared.Refusal.{Refusal}
 use Rattle.certificates.specs.declared.certify.Ceiling.{Ceiling}
 use Rattle.frames.specs.Digits.{digit, byte_at}
 use Rattle.frames.specs.Fields.{field}
+use Rattle.reasons.specs.declared.Reason.{Reason}
 use Rattle.lines.specs.declared.kind.Kind.{Kind}
-use Rattle.lines.specs.declared.kind.Kind.TheVariants.{Certify, Search}
+use Rattle.lines.specs.declared.kind.Kind.TheVariants.{Certify, Search, Explain}
 use Rattle.lines.proofs.KindNumbers.{number_low}
 use Rattle.search.specs.declared.answer.Found.{Found}
-use Rattle.replies.specs.Replies.{refusal_byte, refusal_reply, bound_reply, certify_reply, search_reply}
+use Rattle.replies.specs.Replies.{refusal_byte, refusal_reply, bound_reply, certify_reply, search_reply, reason_reply}
 use Rattle.replies.specs.Shown.{kind_shown, accepted}
-use Rattle.replies.proofs.ReadBack.{refusal_kind, bound_kind, certify_kind, search_kind}
+use Rattle.replies.proofs.ReadBack.{refusal_kind, bound_kind, certify_kind, search_kind, reason_kind}
 
 -- an empty reply shows no byte
 pub accepted_as : (reply : List ℕ) → kind_shown reply < refusal_byte → accepted reply ≡ true
@@ -42,3 +43,6 @@ certify_accepted full_weight c = accepted_as (certify_reply full_weight c) (omeg
 
 pub search_accepted : (n : ℕ) (f : Found) → accepted (search_reply n f) ≡ true
 search_accepted n f = accepted_as (search_reply n f) (omega (arith, search_kind n f, number_low Search))
+
+pub reason_accepted : (r : Reason) → accepted (reason_reply r) ≡ true
+reason_accepted r = accepted_as (reason_reply r) (omega (arith, reason_kind r, number_low Explain))

@@ -7,10 +7,11 @@ use lib.IntN.{ℤ}
 use lib.ListN.{length}
 use Rattle.refusals.specs.declared.Refusal.{Refusal}
 use Rattle.certificates.specs.declared.certify.Ceiling.{Ceiling}
+use Rattle.reasons.specs.declared.Reason.{Reason}
 use Rattle.frames.proofs.RunDigits.{run_length}
 use Rattle.lines.specs.declared.kind.Kind.{Kind}
 use Rattle.search.specs.declared.answer.Found.{Found}
-use Rattle.replies.specs.Replies.{choice_width, refusal_widths, refusal_reply, bound_widths, bound_reply, certify_widths, certify_reply, search_widths, shown_choice, search_reply, refusal_numbers, bound_numbers, certify_numbers, search_numbers, plan_digits}
+use Rattle.replies.specs.Replies.{choice_width, refusal_widths, refusal_reply, bound_widths, bound_reply, certify_widths, certify_reply, search_widths, shown_choice, search_reply, refusal_numbers, bound_numbers, certify_numbers, search_numbers, plan_digits, reason_widths, reason_numbers, reason_reply}
 use Rattle.replies.proofs.ReplyFields.{fields_length}
 
 -- a refusal has four characters
@@ -29,3 +30,7 @@ certify_length full_weight c = fields_length certify_widths (certify_numbers ful
 pub search_length : (n : ℕ) (f : Found) → length (search_reply n f) ≡ 24 + 2 * n
 unfolding search_reply
 search_length n f = omega (arith, fields_length search_widths (search_numbers f) (plan_digits n f) refl, run_length choice_width n (shown_choice f) [])
+
+pub reason_length : (r : Reason) → length (reason_reply r) ≡ 6
+unfolding reason_reply
+reason_length r = fields_length reason_widths (reason_numbers r) [] refl

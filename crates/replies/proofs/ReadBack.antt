@@ -12,13 +12,16 @@ use Rattle.refusals.specs.Refusals.{refusal_number}
 use Rattle.tables.specs.Block.{constant}
 use Rattle.bounds.specs.Bounds.{bound_of}
 use Rattle.certificates.specs.declared.certify.Ceiling.{Ceiling}
+use Rattle.reasons.specs.declared.Reason.{Reason}
+use Rattle.reasons.specs.declared.Reason.TheVariants.{Neither, Own, Partner}
+use Rattle.reasons.specs.Reasons.{reason_number, reason_train}
 use Rattle.lines.specs.declared.kind.Kind.{Kind}
-use Rattle.lines.specs.declared.kind.Kind.TheVariants.{Certify, Search}
+use Rattle.lines.specs.declared.kind.Kind.TheVariants.{Certify, Search, Explain}
 use Rattle.lines.proofs.KindNumbers.{number_low}
 use Rattle.search.specs.declared.answer.Found.{Found}
 use Rattle.search.specs.Answer.{is_found}
-use Rattle.replies.specs.Replies.{figure_width, choice_width, refusal_widths, refusal_byte, refusal_reply, reply_kind, bound_widths, bound_reply, certify_widths, flag, certify_reply, search_widths, ending, shown_cost, shown_choice, search_reply, refusal_numbers, bound_numbers, certify_numbers, search_numbers, plan_digits}
-use Rattle.replies.specs.Shown.{kind_shown, number_shown, constant_shown, bound_shown, flag_shown, weighted_shown, full_weight_shown, ending_shown, says_ended, says_ended_without, cost_shown, plan_shown}
+use Rattle.replies.specs.Replies.{figure_width, choice_width, refusal_widths, refusal_byte, refusal_reply, reply_kind, bound_widths, bound_reply, certify_widths, flag, certify_reply, search_widths, ending, shown_cost, shown_choice, search_reply, refusal_numbers, bound_numbers, certify_numbers, search_numbers, plan_digits, reason_widths, reason_numbers, reason_reply}
+use Rattle.replies.specs.Shown.{kind_shown, number_shown, constant_shown, bound_shown, flag_shown, weighted_shown, full_weight_shown, ending_shown, says_ended, says_ended_without, cost_shown, plan_shown, reason_shown, train_shown}
 use Rattle.replies.proofs.ReplyFields.{fields_shown, run_shown}
 
 flag_low : (t : Bool) → flag t < 256
@@ -116,3 +119,23 @@ module _ (n : ℕ) (f : Found) where
   pub search_plan : (i : ℕ) → i < n → shown_choice f i < 256 ^ choice_width → plan_shown (search_reply n f) i ≡ shown_choice f i
   unfolding search_reply
   search_plan i h q = run_shown search_widths (search_numbers f) choice_width n (shown_choice f) [] refl i h q
+
+-- ---- 8A
+
+reason_low : (r : Reason) → reason_number r < 256
+reason_low Neither = omega arith
+reason_low Own = omega arith
+reason_low (Partner j) = omega arith
+
+module _ (r : Reason) where
+  pub reason_kind : kind_shown (reason_reply r) ≡ reply_kind Explain
+  unfolding reason_reply
+  reason_kind = fields_shown reason_widths (reason_numbers r) [] refl 0 (omega arith) (omega arith)
+
+  pub reason-shown : reason_shown (reason_reply r) ≡ reason_number r
+  unfolding reason_reply
+  reason-shown = fields_shown reason_widths (reason_numbers r) [] refl 1 (omega arith) (reason_low r)
+
+  pub train-shown : reason_train r < 256 → train_shown (reason_reply r) ≡ reason_train r
+  unfolding reason_reply
+  train-shown h = fields_shown reason_widths (reason_numbers r) [] refl 2 (omega arith) h

@@ -5,10 +5,12 @@ use Rattle.refusals.specs.Refusals.{refusal_number}
 use Rattle.tables.specs.Block.{constant, max_trains}
 use Rattle.bounds.specs.Bounds.{bound_of}
 use Rattle.certificates.specs.declared.certify.Ceiling.{Ceiling}
+use Rattle.reasons.specs.declared.Reason.{Reason}
+use Rattle.reasons.specs.Reasons.{reason_number, reason_train}
 use Rattle.frames.specs.Fields.{field_digits}
 use Rattle.frames.specs.Runs.{run_digits}
 use Rattle.lines.specs.declared.kind.Kind.{Kind}
-use Rattle.lines.specs.declared.kind.Kind.TheVariants.{Certify, Search}
+use Rattle.lines.specs.declared.kind.Kind.TheVariants.{Certify, Search, Explain}
 use Rattle.lines.specs.Kinds.{kind_number}
 use Rattle.search.specs.declared.answer.Found.{Found}
 use Rattle.search.specs.Answer.{is_found, found_cost, found_plan}
@@ -48,7 +50,7 @@ refusal_numbers r = refusal_byte ∷ refusal_number r ∷ []
 unfoldable pub refusal_reply : Refusal → List ℕ
 refusal_reply r = fields_digits refusal_widths (refusal_numbers r) []
 
--- ---- 'Kinds 01 to 04: 81 to 84', 'Certify: 85', 'Search: 86', and 88 for 08, 89 for 09
+-- ---- 'Kinds 01 to 04: 81 to 84', 'Certify: 85', 'Search: 86', and 88 for 08, 89 for 09, 8A for 0A
 
 -- the first byte of the reply to a line of this first byte
 abbrev pub reply_byte : ℕ → ℕ
@@ -108,6 +110,17 @@ plan_digits n f = run_digits choice_width n (shown_choice f) []
 
 unfoldable pub search_reply : ℕ → Found → List ℕ
 search_reply n f = fields_digits search_widths (search_numbers f) (plan_digits n f)
+
+-- ---- document 02, change 8: '8A, reason, train'
+
+abbrev pub reason_widths : List ℕ
+reason_widths = 1 ∷ 1 ∷ 1 ∷ []
+
+abbrev pub reason_numbers : Reason → List ℕ
+reason_numbers r = reply_kind Explain ∷ reason_number r ∷ reason_train r ∷ []
+
+unfoldable pub reason_reply : Reason → List ℕ
+reason_reply r = fields_digits reason_widths (reason_numbers r) []
 
 -- ---- how long replies are
 

@@ -2,7 +2,7 @@
 use Rattle.std.specs.Prelude.{Bool, not, ◌&&◌, List, ℕ, ◌+◌, ◌*◌, ◌-◌, ◌^◌, ltb, eqb, length, take}
 use Rattle.theory.specs.Lists.{nth}
 use Rattle.frames.specs.Fields.{field}
-use Rattle.replies.specs.Replies.{bytes_in, figure_width, choice_width, refusal_widths, refusal_byte, bound_widths, certify_widths, search_widths}
+use Rattle.replies.specs.Replies.{bytes_in, figure_width, choice_width, refusal_widths, refusal_byte, bound_widths, certify_widths, search_widths, reason_widths}
 
 -- field k of a reply with fields of these widths
 abbrev pub shown_in : List ℕ → ℕ → List ℕ → ℕ
@@ -61,3 +61,10 @@ plan_shown reply i = shown_behind search_widths choice_width i reply
 -- 'With no plan yet .., cost and plan are all FF'
 abbrev pub shows_plan : List ℕ → Bool
 shows_plan reply = not (eqb (cost_shown reply) (256 ^ figure_width - 1))
+
+-- document 02, change 8: '8A, reason, train, the last FF unless 02'
+abbrev pub reason_shown : List ℕ → ℕ
+reason_shown reply = shown_in reason_widths 1 reply
+
+abbrev pub train_shown : List ℕ → ℕ
+train_shown reply = shown_in reason_widths 2 reply

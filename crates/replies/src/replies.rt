@@ -1,12 +1,14 @@
 // Document 01, 'Replies'. Each writer asks for room in the buffer that its caller lends: a struct around that would say of its field what `Wrote` says of the buffer.
 ghost use Rattle.std.specs.Prelude.{◌≡◌, ◌++◌, ◌+◌, ◌*◌, ◌<◌, ◌≤◌, length, take};
 ghost use Rattle.tables.specs.Block.{max_trains};
-ghost use Rattle.replies.specs.Replies.{choice_width, longest_fixed, refusal_reply, reply_kind, bound_reply, certify_reply, ending, shown_cost, shown_choice, plan_digits, search_reply};
+ghost use Rattle.reasons.specs.Reasons.{reason_number, reason_train};
+ghost use Rattle.replies.specs.Replies.{choice_width, longest_fixed, refusal_reply, reply_kind, bound_reply, certify_reply, ending, shown_cost, shown_choice, plan_digits, search_reply, reason_reply};
 ghost use Rattle.replies.specs.Wrote.{Wrote};
 
 use crate::write;
 use certificates::certify::Ceiling;
 use lines::kind::Kind;
+use reasons::Reason;
 use refusals::Refusal;
 use search::answer::Found;
 use tables::block;
@@ -24,6 +26,8 @@ const REPLY_KIND: u64 = 128;
 const NO_COST: u64 = 281474976710655;
 // What stands for a choice where no plan was found: a byte FF, as the reply has it. `shown_choice` makes it of the Option of a plan.
 const NO_CHOICE: u64 = 255;
+// What stands for the partner where none is named: a byte FF, as the reply has it.
+const NO_PARTNER: u64 = 255;
 
 // Writes the reply to a declined line.
 #[tactic(auto, unfolding(crate::specs::Replies::refusal_reply))]
@@ -124,4 +128,39 @@ pub fn write_search(reply: &mut [u8], n: usize, f: Found) -> usize
     ];
     let end = write::put_fields(reply, &fields);
     write_plan(reply, end, n, &f)
+}
+
+// The reply's byte for a reason.
+fn reason_number(r: Reason) -> u64
+    ensures { result ≡ reason_number r }
+{
+    match r {
+        Reason::Neither => 0,
+        Reason::Own => 1,
+        Reason::Partner(_) => 2,
+    }
+}
+
+// The reply's byte for the partner that a reason names.
+fn reason_train(r: Reason) -> u64
+    ensures { result ≡ reason_train r }
+{
+    match r {
+        Reason::Partner(train) => train as u64,
+        Reason::Neither | Reason::Own => NO_PARTNER,
+    }
+}
+
+// Writes why a choice is out.
+#[tactic(auto, unfolding(crate::specs::Replies::reason_reply))]
+pub fn write_reason(reply: &mut [u8], r: Reason) -> usize
+    requires { longest_fixed ≤ length reply.old }
+    ensures { Wrote reply.old (reason_reply r) reply.new result }
+{
+    let fields = [
+        (1, reply_kind(Kind::Explain)),
+        (1, reason_number(r)),
+        (1, reason_train(r)),
+    ];
+    write::put_fields(reply, &fields)
 }

@@ -25,14 +25,15 @@ use Rattle.frames.specs.Runs.{run_of, signed_run_of}
 use Rattle.lines.specs.declared.kind.Kind.{Kind}
 use Rattle.lines.specs.declared.kind.Kind.TheVariants as kind
 use Rattle.lines.specs.declared.request.Request.{Request}
-use Rattle.lines.specs.declared.request.Request.TheVariants.{Load, Add, Shift, Tighten, Certify, Search, Save, Round, Clauses}
+use Rattle.lines.specs.declared.request.Request.TheVariants.{Load, Add, Shift, Tighten, Certify, Search, Save, Round, Clauses, Explain}
 use Rattle.lines.specs.Kinds.{request_kind}
 use Rattle.lines.specs.Layout.{move_width, weight_width}
 use Rattle.decoding.specs.Numbers.{numbers_of}
 use Rattle.decoding.specs.Clauses.{clauses_of}
+use Rattle.reasons.specs.Reasons.{reason_at}
 use Rattle.search.specs.Answer.{search_answer}
 use Rattle.replies.specs.Replies.{longest_fixed, longest_reply}
-use Rattle.replies.proofs.Lengths.{bound_length, certify_length, search_length, refusal_length}
+use Rattle.replies.proofs.Lengths.{bound_length, certify_length, search_length, reason_length, refusal_length}
 use Rattle.saving.proofs.Together.{save_length, save_most}
 use Rattle.requests.specs.Answer.{operated, certified, requested, fixed_reply}
 use Rattle.requests.specs.Wrote.{Asks}
@@ -65,6 +66,7 @@ requested_short l b room (Search q) e a = omega (arith, search_length (trains b)
 requested_short l b room Save e a = absurd (not_both e refl)
 requested_short l b room Round e a = operated_short kind.Round (direct_outcome b) b _
 requested_short l b room (Clauses q) e a = operated_short kind.Clauses (clauses_outcome q.trains q.scale (clauses_of l)) _ _
+requested_short l b room (Explain q) e a = omega (arith, reason_length (reason_at b q.train q.choice q.limit.0))
 
 saved_most : (l : List ℕ) (b : List ℤ) → Study b → UpTo longest_reply (requested Save l b).reply
 unfolding requested

@@ -13,7 +13,7 @@ use Rattle.theory.proofs.Range.{not_both}
 use Rattle.refusals.specs.Verdicts.{Verdict, Fine, settled}
 use Rattle.lines.specs.declared.kind.Kind.{Kind}
 use Rattle.lines.specs.declared.request.Request.{Request}
-use Rattle.lines.specs.declared.request.Request.TheVariants.{Certify, Search, Save}
+use Rattle.lines.specs.declared.request.Request.TheVariants.{Certify, Search, Save, Explain}
 use Rattle.lines.specs.Kinds.{request_kind}
 use Rattle.lines.specs.Layout.{weight_width}
 use Rattle.replies.specs.Shown.{accepted}
@@ -41,4 +41,5 @@ unfolding requested
 requested_leaves (Certify q) l b e = certified_leaves q.full (certificate b (weights_of b q.full (run_of l q.weights.at weight_width q.weights.count))) b
 requested_leaves (Search q) l b e = refl
 requested_leaves Save l b e = refl
+requested_leaves (Explain q) l b e = refl
 requested_leaves q l b e = absurd (not_both e refl)

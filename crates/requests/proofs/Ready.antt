@@ -35,16 +35,17 @@ use Rattle.lines.specs.declared.request.Shift.{Shift}
 use Rattle.lines.specs.declared.request.Certify.{Certify}
 use Rattle.lines.specs.declared.request.Search.{Search}
 use Rattle.lines.specs.declared.request.Clauses.{Clauses as ClauseFields}
+use Rattle.lines.specs.declared.request.Explain.{Explain}
 use Rattle.lines.specs.declared.request.Request.{Request}
-use Rattle.lines.specs.declared.request.Request.TheVariants.{Load as load_of, Add as add_of, Shift as shift_of, Certify as certify_of, Search as search_of, Clauses as clauses_request}
+use Rattle.lines.specs.declared.request.Request.TheVariants.{Load as load_of, Add as add_of, Shift as shift_of, Certify as certify_of, Search as search_of, Clauses as clauses_request, Explain as explain_of}
 use Rattle.lines.specs.Kinds.{needs_study, request_kind}
-use Rattle.lines.specs.Layout.{add_train, add_choice, add_points, certify_full_weight, search_budget, number_in, signed_in, further, lift_field, move_field, weight_field}
+use Rattle.lines.specs.Layout.{add_train, add_choice, add_points, certify_full_weight, search_budget, explain_train, explain_choice, explain_limit, number_in, signed_in, further, lift_field, move_field, weight_field}
 use Rattle.lines.specs.Verdicts.{field_run}
-use Rattle.kinds.proofs.Accepted.{add_fine, shift_fine, certify_fine, search_fine}
+use Rattle.kinds.proofs.Accepted.{add_fine, shift_fine, certify_fine, search_fine, explain_fine}
 use Rattle.decoding.proofs.LoadRange.{load_in_range}
 use Rattle.decoding.proofs.ClausesRange.{clauses_in_limits}
-use Rattle.reader.proofs.LineAccepted.{Makes, line_makes, frame_length, add_there, weight_below}
-use Rattle.requests.specs.Wrote.{Asks, Loads, Adds, Shifts, Certifies, LoadsClauses}
+use Rattle.reader.proofs.LineAccepted.{Makes, line_makes, frame_length, add_there, weight_below, explain_there, limit_below}
+use Rattle.requests.specs.Wrote.{Asks, Loads, Adds, Shifts, Certifies, LoadsClauses, Explains}
 
 module _ {l : List ℕ} {b : List ℤ} {q : Request} {room : ℕ} (a : Asks l b q room) where
   makes : Makes l b q
@@ -143,6 +144,16 @@ load_ready {l} a = let m = makes a in record { frame = frame a; fine = m.1; made
 
 pub clauses_ready : {l : List ℕ} {b : List ℤ} {q : ClauseFields} {room : ℕ} → Asks l b (clauses_request q) room → LoadsClauses l q
 clauses_ready {l} a = let m = makes a in record { frame = frame a; fine = m.1; made = m.0; limits = clauses_in_limits l m.1 }
+
+-- ---- 0A, why a choice is out
+
+pub explain_ready : {l : List ℕ} {b : List ℤ} {q : Explain} {room : ℕ} → Asks l b (explain_of q) room → Explains b q
+explain_ready {l} {b} {q} a =
+    let m = makes a in
+    let e : q ≡ record { train = explain_train l; choice = explain_choice l; limit = the_points (explain_limit l) } = cc in
+    let s = study_ready a refl in
+    let f = explain_fine l b m.1 in
+    rw e (record { study = s; train = (explain_there s f).0; choice = (explain_there s f).1; limit = limit_below (frame_length (frame a)) f })
 
 -- ---- a shift, a tightening or a directional round leaves a study, done or declined
 

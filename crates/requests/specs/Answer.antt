@@ -20,7 +20,7 @@ use Rattle.frames.specs.Runs.{run_of, signed_run_of}
 use Rattle.lines.specs.declared.kind.Kind.{Kind}
 use Rattle.lines.specs.declared.kind.Kind.TheVariants as kind
 use Rattle.lines.specs.declared.request.Request.{Request}
-use Rattle.lines.specs.declared.request.Request.TheVariants.{Load, Add, Shift, Tighten, Certify, Search, Save, Round, Clauses}
+use Rattle.lines.specs.declared.request.Request.TheVariants.{Load, Add, Shift, Tighten, Certify, Search, Save, Round, Clauses, Explain}
 use Rattle.lines.specs.declared.request.Line.{Line}
 use Rattle.lines.specs.declared.request.Line.TheVariants.{Asked, Refused}
 use Rattle.lines.specs.Layout.{move_width, weight_width}
@@ -28,8 +28,9 @@ use Rattle.lines.specs.Text.{load_digits}
 use Rattle.decoding.specs.Numbers.{numbers_of}
 use Rattle.decoding.specs.Clauses.{clauses_of, clause_numbers_of}
 use Rattle.reader.specs.Reading.{line_of}
+use Rattle.reasons.specs.Reasons.{reason_at}
 use Rattle.search.specs.Answer.{search_answer}
-use Rattle.replies.specs.Replies.{refusal_reply, bound_reply, certify_reply, search_reply}
+use Rattle.replies.specs.Replies.{refusal_reply, bound_reply, certify_reply, search_reply, reason_reply}
 
 -- the block after the call, and the reply
 pub record Answer : Type 0 where
@@ -72,6 +73,7 @@ requested (Search q) l b = answered b (search_reply (trains b) (search_answer b 
 requested Save l b = saved b
 requested Round l b = operated kind.Round (direct_outcome b) b (kept b (directed b))
 requested (Clauses q) l b = operated kind.Clauses (clauses_outcome q.trains q.scale (clauses_of l)) b (loaded_block (clause_numbers_of l))
+requested (Explain q) l b = answered b (reason_reply (reason_at b q.train q.choice (number_of_points q.limit)))
 
 -- what a line asks, done, or the refusal
 abbrev pub carried_out : Line → List ℕ → List ℤ → Answer
@@ -89,8 +91,9 @@ fixed_reply kind.Search = true
 fixed_reply kind.Save = false
 fixed_reply kind.Round = true
 fixed_reply kind.Clauses = true
+fixed_reply kind.Explain = true
 
--- the kinds that leave the block as it was, accepted or declined: 'Certify and search change nothing in the block', nor does a save
+-- the kinds that leave the block as it was, accepted or declined: 'Certify and search change nothing in the block', nor does a save or a reason
 abbrev pub leaves_block : Kind → Bool
 leaves_block kind.Load = false
 leaves_block kind.Add = false
@@ -101,6 +104,7 @@ leaves_block kind.Search = true
 leaves_block kind.Save = true
 leaves_block kind.Round = false
 leaves_block kind.Clauses = false
+leaves_block kind.Explain = true
 
 -- 17: a reply that is longer than the room for it 'hands back an empty part and writes nothing', and leaves the block
 abbrev pub fitted : ℕ → List ℤ → Answer → Answer

@@ -1,5 +1,5 @@
 -- What a function that answers a line leaves, and what the functions for the requests ask.
-use Rattle.std.specs.Prelude.{◌≡◌, List, true, ℕ, ◌+◌, ◌*◌, ◌<◌, ◌≤◌, ℤ, length}
+use Rattle.std.specs.Prelude.{◌≡◌, List, true, ℕ, ◌+◌, ◌*◌, ◌^◌, ◌<◌, ◌≤◌, ℤ, length}
 use Rattle.refusals.specs.Verdicts.{Fine}
 use Rattle.units.specs.Units.{number_of_points}
 use Rattle.tables.specs.Block.{max_trains, max_choices, max_pairs, entries_of_pair, max_cost, trains, size}
@@ -19,6 +19,7 @@ use Rattle.lines.specs.declared.request.Add.{Add}
 use Rattle.lines.specs.declared.request.Shift.{Shift}
 use Rattle.lines.specs.declared.request.Certify.{Certify}
 use Rattle.lines.specs.declared.request.Clauses.{Clauses}
+use Rattle.lines.specs.declared.request.Explain.{Explain}
 use Rattle.lines.specs.declared.request.Request.{Request}
 use Rattle.lines.specs.declared.request.Request.TheVariants.{Load as load_of, Clauses as clauses_asked}
 use Rattle.lines.specs.declared.request.Line.TheVariants.{Asked}
@@ -82,3 +83,10 @@ pub record LoadsClauses (l : List ℕ) (q : Clauses) : Type 0 where
   pub fine : clauses_verdict l ≡ Fine
   pub made : clauses_asked q ≡ clauses_request l
   pub limits : InLimits (load_trains l) (load_scale l) (clauses_of l)
+
+-- a choice that is there, and a limit of its width
+pub record Explains (b : List ℤ) (q : Explain) : Type 0 where
+  pub study : Study b
+  pub train : q.train < trains b
+  pub choice : q.choice < size b q.train
+  pub limit : number_of_points q.limit < 2 ^ 32

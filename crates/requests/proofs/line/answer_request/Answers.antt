@@ -1,6 +1,6 @@
 -- Each request has its function, and its case of the definition; a fixed reply fits.
 use mathlib.Core.Path.{refl}
-use Rattle.requests.proofs.Ready.{study_ready, load_ready, add_ready, shift_ready, certify_ready, search_ready, clauses_ready}
+use Rattle.requests.proofs.Ready.{study_ready, load_ready, add_ready, shift_ready, certify_ready, search_ready, clauses_ready, explain_ready}
 use Rattle.requests.proofs.line.answer_request.Goals as goal
 
 pub answer_load-requires : goal.answer_load-requires
@@ -32,3 +32,9 @@ answer_round-requires c = let a = rw c.in-Round.is at c.requires in (a.fits, stu
 
 pub answer_clauses-requires : goal.answer_clauses-requires
 answer_clauses-requires c = let a = rw c.in-Clauses.is at c.requires in (a.fits, clauses_ready a)
+
+pub known-requires-in-Explain : goal.known-requires-in-Explain
+known-requires-in-Explain c = study_ready (rw c.in-Explain.is at c.requires) refl
+
+pub answer_explain-requires : goal.answer_explain-requires
+answer_explain-requires c = let a = rw c.in-Explain.is at c.requires in rw c.known-in-Explain.ensures (a.fits, explain_ready a)

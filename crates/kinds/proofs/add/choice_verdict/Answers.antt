@@ -1,4 +1,4 @@
--- The train, the choice and the points are judged in the line's order, then the end. A study has a train, and each train a choice.
+-- The train, the choice and the last field are judged in the line's order, then the end. A study has a train, and each train a choice.
 use mathlib.Core.Path.{◌≡◌, refl, sym, ◌∙◌}
 use Prim.Native.Nat.{◌≤◌, ◌<◌}
 use native.Mathlib.Omega.{arith}
@@ -9,8 +9,8 @@ use Rattle.frames.specs.Digits.{bytes}
 use Rattle.lines.specs.Layout.{end_of, below, add_train_field, add_train}
 use Rattle.lines.specs.Verdicts.{field_verdict}
 use Rattle.lines.proofs.Judged.{field-within}
-use Rattle.kinds.proofs.add.add_verdict.Goals.{In_ok-index_verdict}
-use Rattle.kinds.proofs.add.add_verdict.Goals as goal
+use Rattle.kinds.proofs.add.choice_verdict.Goals.{In_ok-index_verdict}
+use Rattle.kinds.proofs.add.choice_verdict.Goals as goal
 
 -- the train is there
 there : (c : In_ok-index_verdict)
