@@ -7,6 +7,8 @@
 //!
 //! It takes a search line and a well-formed block for granted: it checks nothing and refuses nothing.
 
+use std::mem::replace;
+
 const TRAINS: usize = 24;
 const CHOICES: usize = 8;
 const PAIRS: usize = 48;
@@ -19,6 +21,8 @@ const CONSTANT: usize = 3;
 const SIZES: usize = 4;
 const FIRSTS: usize = 28;
 const SECONDS: usize = 76;
+const LOADED_CHOICES: usize = 124;
+const LOADED_ENTRIES: usize = 508;
 const HELD_CHOICES: usize = 316;
 const HELD_ENTRIES: usize = 3_580;
 
@@ -105,6 +109,24 @@ fn row_at(block: &[i64], place: usize) -> Row {
     row
 }
 
+/// The greatest common divisor of all loaded costs, 1 where all are 0. Unused places are 0 too.
+fn step(block: &[i64], n: usize, m: usize) -> u64 {
+    let choices = &block[LOADED_CHOICES..][..CHOICES * n];
+    let entries = &block[LOADED_ENTRIES..][..CHOICES * CHOICES * m];
+    // All are below 2^20.
+    let mut step: u32 = 0;
+    for &cost in choices.iter().chain(entries) {
+        let mut rest = replace(&mut step, cost as u32);
+        while rest != 0 {
+            (step, rest) = (rest, step % rest);
+        }
+        if step == 1 {
+            break;
+        }
+    }
+    u64::from(step.max(1))
+}
+
 impl Table {
     const EMPTY: Self = Self {
         last: 0,
@@ -122,7 +144,10 @@ impl Table {
         let (n, m) = (block[TRAIN_COUNT] as usize, block[PAIR_COUNT] as usize);
         self.last = n - 1;
         self.scale = block[SCALE] as u64;
-        self.bound = (block[CONSTANT] as u64).div_ceil(self.scale);
+        self.bound = match (block[CONSTANT] as u64).div_ceil(self.scale) {
+            0 => 0,
+            points => points.next_multiple_of(step(block, n, m)),
+        };
         for train in 0..n {
             self.sizes[train] = block[SIZES + train] as usize;
             self.ends[train] = train;

@@ -4,8 +4,8 @@ use reference::clause_lines::clause_fields;
 use reference::clauses::{Clause, Clauses};
 use reference::generator::{certificate_fields, line_of, load_fields, shift_fields};
 use reference::lines::{digits, put, CLAUSES};
-use reference::model::{self, Costs, Pair, Study, BLOCK_LENGTH};
-use reference::operations::Certificate;
+use reference::model::{self, Cost, Costs, Pair, Study, BLOCK_LENGTH};
+use reference::operations::{self, Certificate};
 use reference::random::Random;
 use reference::rewriting::Rewriting;
 use std::iter::repeat_with;
@@ -20,6 +20,8 @@ pub const LONG_BUDGET: i64 = 10_000_000;
 pub const LONG_STUDIES: [(u64, i64); 5] = [(1, 1_000_000), (2, 1_000_000), (3, 1_000), (4, 10), (5, 1)];
 /// The highest weight of a clause: no entry's sum passes the limit, whatever the literals are.
 const TOP_WEIGHT: i64 = 2_000;
+/// All costs of a further full study are multiples of it.
+const FIVE: i64 = 5;
 /// How many plans a certificate mixes.
 const PLANS: i64 = 5;
 /// Document 01's J: 2 trains of 2 choices, 1 pair.
@@ -45,12 +47,17 @@ impl Input {
     }
 }
 
-/// Every kind of line and some that are refused, on the small and on the full study.
+/// Every kind of line and some that are refused, on the small and on the full study; some lines in steps of the tariff, on
+/// these and on a full study in steps of 5.
 pub fn short_inputs() -> Vec<Input> {
     let small = held_study(SMALL_LOAD.as_bytes());
-    let full = full_study(SEED, 1_000_000);
+    let full = full_study(SEED, 1_000_000, 1);
+    let fives = full_study(SEED, 1_000_000, FIVE);
     let mut inputs = inputs_of("small", &small, SMALL_CLAUSES.into());
     inputs.extend(inputs_of("full", &full, clause_line(&full)));
+    for (name, study, step) in [("small", small, 1), ("full", full, 1), ("fives", fives, FIVE)] {
+        inputs.extend(inputs_in_steps(name, study, step));
+    }
     inputs
 }
 
@@ -72,7 +79,7 @@ pub fn all() -> impl Iterator<Item = Input> {
 fn searches(name: &str, budget: i64) -> Vec<Input> {
     let input = |(seed, top): (u64, i64)| Input {
         name: format!("{name}-{seed}"),
-        block: block_of(&full_study(seed, top)),
+        block: block_of(&full_study(seed, top, 1)),
         line: search_line(budget),
         reply: SEARCH_REPLY,
     };
@@ -84,11 +91,11 @@ fn inputs_of(size: &str, study: &Study, clauses: Vec<u8>) -> Vec<Input> {
     let held = block_of(study);
     let of_clauses = block_of(&held_study(&clauses));
     let load = line_of(&load_fields(study));
-    let longest = line_of(&load_fields(&full_study(SEED, 1_000_000)));
+    let longest = line_of(&load_fields(&full_study(SEED, 1_000_000, 1)));
     let rows = [
         ("load", &held, load.clone(), "81"),
         ("load-on-fresh", &fresh, load, "81"),
-        ("add", &held, add_line(study), "82"),
+        ("add", &held, add_line(study, 1), "82"),
         ("shift", &held, shift_line(study), "83"),
         ("tighten", &held, b"04".to_vec(), "84"),
         ("certify", &held, certify_line(study), "85"),
@@ -110,8 +117,26 @@ fn inputs_of(size: &str, study: &Study, clauses: Vec<u8>) -> Vec<Input> {
     rows.map(input).into()
 }
 
-/// 24 trains of 8 choices and 48 pairs, all costs from 0 to `top`.
-fn full_study(seed: u64, top: i64) -> Study {
+/// Lines whose bound is above 0, so that the step of all costs is needed, on the study as a tightening leaves it: an
+/// addition that keeps the step, a tightening and a search.
+fn inputs_in_steps(name: &str, mut study: Study, step: i64) -> Vec<Input> {
+    operations::tighten(&mut study).expect("a loaded study can be tightened");
+    let rows = [
+        ("add", add_line(&study, step), "82"),
+        ("tighten", b"04".to_vec(), "84"),
+        ("search", search_line(SMALL_BUDGET), SEARCH_REPLY),
+    ];
+    let input = |(line_name, line, reply): (&str, Vec<u8>, &'static str)| Input {
+        name: format!("{line_name}-{name}-steps"),
+        block: block_of(&study),
+        line,
+        reply,
+    };
+    rows.map(input).into()
+}
+
+/// 24 trains of 8 choices and 48 pairs, all costs multiples of the step from 0 to `top`.
+fn full_study(seed: u64, top: i64, step: i64) -> Study {
     let random = &mut Random::new(seed);
     let mut keys: Vec<[usize; 2]> = (0..24).flat_map(|j| (0..j).map(move |i| [i, j])).collect();
     random.shuffle(&mut keys);
@@ -119,7 +144,7 @@ fn full_study(seed: u64, top: i64) -> Study {
     keys.sort();
     let scale = 7;
     let mut costs = |rows: usize| {
-        let loaded = repeat_with(|| Some(random.between(0, top))).take(8 * rows).collect();
+        let loaded = repeat_with(|| Some(step * random.between(0, top / step))).take(8 * rows).collect();
         Costs::new(rows, 8, loaded, scale)
     };
     let trains = (0..24).map(|_| costs(1)).collect();
@@ -153,15 +178,14 @@ fn block_of(study: &Study) -> Vec<i64> {
     block
 }
 
-/// One point more for the last choice of the last train that has room for it.
-fn add_line(study: &Study) -> Vec<u8> {
-    let room = |costs: &Costs| {
-        costs.entries.iter().rposition(|entry| entry.is_some_and(|cost| cost.loaded < 1_000_000))
-    };
+/// These points more for the last choice of the last train that has room for them.
+fn add_line(study: &Study, points: i64) -> Vec<u8> {
+    let has_room = |cost: Cost| cost.loaded + points <= 1_000_000;
+    let room = |costs: &Costs| costs.entries.iter().rposition(|entry| entry.is_some_and(has_room));
     let places = study.trains.iter().enumerate().rev();
     let (train, choice) =
         places.filter_map(|(train, costs)| Some((train, room(costs)?))).next().expect("some cost has room");
-    line_of(&vec![(1, 2), (1, train as i64), (1, choice as i64), (3, 1)])
+    line_of(&vec![(1, 2), (1, train as i64), (1, choice as i64), (3, points)])
 }
 
 /// Lifts and moves in both directions that come near the greatest constant.

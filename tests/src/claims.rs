@@ -1,10 +1,11 @@
-//! The claims of "Lists and the ledger", of saves, of rounds, of forbidden entries, of stopping at the bound, of clauses and
-//! of reasons, checked from the outside by every plan of small studies.
+//! The claims of "Lists and the ledger", of saves, of rounds, of forbidden entries, of stopping at the bound, of clauses, of
+//! reasons and of bounds in steps, checked from the outside by every plan of small studies.
 
 use crate::generator::{Reach, Session};
 use crate::lines;
 use crate::literals::{Literals, Text};
 use crate::model::{Cost, Costs, Pair, Study, BLOCK_LENGTH, FORBIDDEN};
+use crate::multiples::{Multiples, Tariff};
 use crate::random::Random;
 use crate::rewriting::Rewriting;
 use crate::saves::Saves;
@@ -32,6 +33,7 @@ pub struct Tally {
     pub stops: Stops,
     pub clauses: Literals,
     pub reasons: Reasons,
+    pub multiples: Multiples,
     pub saves: Saves,
 }
 
@@ -200,7 +202,7 @@ impl Ledger {
 
     /// "After the list, the block's n, s, sizes and pairs are the ledger's, and every plan's total
     /// by c0 and T is s × its cost." The places are those of the document.
-    fn check_block(&self, block: &[i64], plans: &Plans) -> Result<(), String> {
+    fn check_block(&self, block: &[i64], plans: &Plans, tariff: &Tariff) -> Result<(), String> {
         let Study { trains, pairs, .. } = &self.costs;
         let head = [trains.len() as i64, self.scale, pairs.len() as i64];
         demand(block[..3] == head, "n, s or m differs")?;
@@ -209,9 +211,8 @@ impl Ledger {
         let same =
             |(p, pair): (usize, &Pair)| pair.trains.map(|t| t as i64) == [block[28 + p], block[76 + p]];
         demand(pairs.iter().enumerate().all(same), "a pair differs")?;
-        // "The published bound is at most every plan's cost": the least whole number of points not
-        // below c0.
-        let bound = (block[3] + self.scale - 1) / self.scale;
+        // "The published bound is at most every plan's cost": in steps of the ledger's costs.
+        let bound = tariff.bound(block[3]);
         for (plan, cost) in plans {
             let choices = plan.iter().enumerate().map(|(i, a)| block[316 + 8 * i + a]);
             let cell = |pair: &Pair| 8 * plan[pair.trains[0]] + plan[pair.trains[1]];
@@ -245,10 +246,17 @@ impl Ledger {
     }
 
     /// A bound that a reply of kinds 01 to 04, 08 and 09 shows "at that line".
-    fn check_bound(&self, reply: &[u8], plans: &Plans, tally: &mut Tally) -> Result<(), String> {
+    fn check_bound(
+        &self,
+        reply: &[u8],
+        plans: &Plans,
+        tariff: &Tariff,
+        tally: &mut Tally,
+    ) -> Result<(), String> {
         tally.bounds += 1;
         let bound = Reader(&reply[14..]).number(6);
-        demand(least(plans).is_none_or(|least| bound <= least), "a bound shown passes a plan's cost")
+        demand(least(plans).is_none_or(|least| bound <= least), "a bound shown passes a plan's cost")?;
+        tally.multiples.check_shown(tariff, reply)
     }
 
     /// What a search claims "at that line". "A search that ends without a plan says 02, with cost and plan FF, and then
@@ -446,14 +454,17 @@ impl Step<'_> {
         self.check_forbidden(ledger, &mut tally.forbidden)?;
         let plans = ledger.plans();
         tally.forbidden.without_plan += usize::from(plans.is_empty());
-        ledger.check_block(self.block, &plans)?;
-        self.check_reply(ledger, &plans, random, tally)
+        let tariff = Tariff::of(ledger.scale, &ledger.costs);
+        ledger.check_block(self.block, &plans, &tariff)?;
+        tally.multiples.check_published(&tariff, self.service, self.block, &ledger.costs)?;
+        self.check_reply(ledger, &plans, &tariff, random, tally)
     }
 
     fn check_reply(
         &self,
         ledger: &Ledger,
         plans: &Plans,
+        tariff: &Tariff,
         random: &mut Random,
         tally: &mut Tally,
     ) -> Result<(), String> {
@@ -481,7 +492,7 @@ impl Step<'_> {
                 if shown == b"88" {
                     ledger.check_round(reply, before[3], plans, tally)?;
                 }
-                ledger.check_bound(reply, plans, tally)
+                ledger.check_bound(reply, plans, tariff, tally)
             }
         }
     }

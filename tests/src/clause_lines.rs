@@ -54,7 +54,7 @@ fn cut(random: &mut Random, fields: &mut Fields, count: usize) {
 }
 
 /// Clauses for the pairs of some shape, or for as many as there may be, or for more; further ones, many of which repeat
-/// one or turn it over; some of one literal.
+/// one or turn it over; some of one literal; now and then all of one weight.
 fn any_clauses(random: &mut Random, n: usize) -> Vec<Clause> {
     let mut keys = match random.chance(35) {
         true => shuffled_pairs(random, n),
@@ -84,7 +84,10 @@ fn any_clauses(random: &mut Random, n: usize) -> Vec<Clause> {
     random.shuffle(&mut literals);
     literals.truncate(count);
     let top = random.pick(&[0, 1, 10, 1_000, 2_000, MOST]);
-    literals.into_iter().map(|literals| Clause { literals, weight: weight(random, top) }).collect()
+    let one = random.pick(&[2, 5, 7, 1_000]);
+    let of_one_weight = random.chance(40);
+    let mut weight = || if of_one_weight { one } else { weight(random, top) };
+    literals.into_iter().map(|literals| Clause { literals, weight: weight() }).collect()
 }
 
 /// A literal of a train, for either choice.

@@ -9,6 +9,7 @@ use crate::random::Random;
 use crate::reasons::beside;
 use crate::rewriting::Rewriting;
 use crate::search;
+use crate::steps;
 use crate::studies::{clique, forbid, mispair, pairs, raise, scale};
 use crate::weights::{couple, mixture, unbalance, uniform};
 use crate::{LEAST_BUFFER, LONGEST_REPLY};
@@ -59,7 +60,7 @@ impl Session {
         let mut setting = Setting::AsLeft;
         if model::decode(block).is_ok() {
             self.good = block.to_vec();
-            if self.reach == Reach::Blocks && self.random.chance(15) {
+            if self.reach == Reach::Blocks && self.random.chance(20) {
                 setting = self.setting(block);
             }
         } else if self.reach == Reach::Blocks && self.random.chance(70) {
@@ -93,7 +94,7 @@ impl Session {
     }
 
     fn setting(&mut self, block: &[i64]) -> Setting {
-        match self.random.below(9) {
+        match self.random.below(11) {
             0 => {
                 let near = BLOCK_LENGTH - 1 + 2 * self.random.below(2);
                 let far = self.random.below(2 * BLOCK_LENGTH);
@@ -109,6 +110,7 @@ impl Session {
                 };
                 match choice {
                     4 => mispair(&mut self.random, &mut study),
+                    9 | 10 => self.beside_bound(&mut study),
                     _ => self.foreign(&mut study),
                 }
                 let mut wanted = block.to_vec();
@@ -186,6 +188,25 @@ impl Session {
         }
     }
 
+    /// Gives the study a c0 of at most one step, and a T, mostly of one train, by which plans come to the bound or to less.
+    fn beside_bound(&mut self, study: &mut Study) {
+        let random = &mut self.random;
+        study.constant = random.between(1, study.scale * steps::step(study));
+        let short = study.scale * study.bound() - study.constant;
+        let less = (short - study.scale).max(0);
+        let zeros = random.pick(&[50, 90, 100, 100]);
+        let mut held = |zeros: u64| {
+            let costs = [short, short, less, random.between(0, short), short + 1, 0];
+            if random.chance(zeros) {
+                0
+            } else {
+                random.pick(&costs)
+            }
+        };
+        study.tables_mut().flat_map(Costs::permitted_mut).for_each(|cost| cost.held = held(zeros));
+        study.trains[0].permitted_mut().for_each(|cost| cost.held = held(0));
+    }
+
     /// A line of any kind, mostly one that a service with this study accepts.
     fn line(&mut self, study: Option<&Study>) -> Vec<u8> {
         if self.random.chance(4) {
@@ -220,8 +241,10 @@ impl Session {
                 &substitute
             }
         };
+        let in_steps = study.bound() > study.points(study.constant);
         match self.random.below(30) {
             _ if load => load_fields(study),
+            _ if in_steps && self.random.chance(30) => vec![(1, 6), (4, self.budget(study))],
             0..=3 => self.add(study),
             4..=8 => self.shift(study),
             9..=11 => vec![(1, 4)],
@@ -254,14 +277,15 @@ impl Session {
         let sizes: Vec<usize> =
             (0..n).map(|_| if full { 8 } else { 1 + random.below(self.most_choices) }).collect();
         let scale = scale(random);
-        let top = random.pick(&[0, 1, 3, 10, 1_000, 1_000_000]);
+        let step = random.pick(&[1, 1, 1, 2, 5, 7, 1_000]);
+        let top = random.pick(&[0, 1, 3, 10, 1_000, 1_000_000]).min(1_000_000 / step);
         let zeros = random.pick(&[0, 0, 30, 60]);
         let all_top = random.chance(5);
         let costs = |random: &mut Random, rows: usize, columns: usize| {
             let cost = || match random.chance(zeros) {
-                _ if all_top => top,
+                _ if all_top => step * top,
                 true => 0,
-                false => random.between(0, top),
+                false => step * random.between(0, top),
             };
             let loaded = repeat_with(cost).map(Some).take(rows * columns).collect();
             Costs::new(rows, columns, loaded, scale)
@@ -276,14 +300,16 @@ impl Session {
 
     fn add(&mut self, study: &Study) -> Fields {
         let random = &mut self.random;
-        let (train, choice) = match random.chance(25) {
-            true => highest(study),
-            false => any_choice(random, study),
+        let (train, choice) = match random.below(8) {
+            0 | 1 => highest(study),
+            2 => hopeless(random, study).unwrap_or_else(|| any_choice(random, study)),
+            _ => any_choice(random, study),
         };
         let none = Cost { loaded: 0, held: 0 };
         let Cost { loaded, held } = study.trains[train].entries[choice].unwrap_or(none);
         let room = 1_000_000 - loaded;
         let room_held = (TOP - held) / study.scale;
+        let step = steps::step(study);
         let points = match random.below(16) {
             0 => room,
             1 => room + 1,
@@ -291,6 +317,8 @@ impl Session {
             3 => 1_000_001,
             4 => room_held.min(room),
             5 => (room_held + 1).min(room),
+            // The costs stay multiples of the step.
+            6..=8 => step * random.between(0, (room / step).min(20)),
             _ => random.between(0, room.min(20)),
         };
         let (train, choice) = match random.below(20) {
@@ -336,6 +364,7 @@ impl Session {
             }
             5..=7 if !study.permits_all() => rewriting.flood(TOP - random.pick(&[0, 0, 0, 1, TOP / 2])),
             3 | 4 => (0..random.between(1, 3)).for_each(|_| rewriting.give_back(random)),
+            8 if study.constant > 0 => rewriting.give_back_less(random),
             _ => (0..random.below(2 + 4 * study.trains.len())).for_each(|_| rewriting.step(random)),
         }
         if self.random.chance(20) {

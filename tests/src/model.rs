@@ -1,5 +1,6 @@
 //! The problem of document 01 as structs, and its state block.
 
+use crate::steps;
 use std::ops::RangeInclusive;
 
 pub const BLOCK_LENGTH: usize = 6_652;
@@ -139,9 +140,13 @@ impl Study {
         (parts + self.scale - 1) / self.scale
     }
 
-    /// "The published bound is the least whole number of points not below c0."
+    /// "The published bound is the least whole number of points not below c0." Change 9: "The published bound rounds up to
+    /// a multiple" of the step.
     pub fn bound(&self) -> i64 {
-        self.points(self.constant)
+        match self.points(self.constant) {
+            0 => 0,
+            points => points + (-points).rem_euclid(steps::step(self)),
+        }
     }
 
     /// "Every train has at most one partner of lower number": no two pairs have the same second train.

@@ -4,6 +4,7 @@
 use crate::model::{Pair, Study, TOP};
 use crate::operations::Shift;
 use crate::random::Random;
+use crate::steps;
 
 /// A study on its way, and the shift that leads to it from where it began.
 pub struct Rewriting {
@@ -91,6 +92,13 @@ impl Rewriting {
     /// A part of the constant goes to every choice of a train.
     pub fn give_back(&mut self, random: &mut Random) {
         self.lift(random.below(self.study.trains.len()), -part(random, self.study.constant));
+    }
+
+    /// A part of the constant that is less than one step goes to every choice of a train.
+    pub fn give_back_less(&mut self, random: &mut Random) {
+        let parts = self.study.scale * steps::step(&self.study);
+        let amount = random.between(0, (parts - 1).min(self.study.constant));
+        self.lift(random.below(self.study.trains.len()), -amount);
     }
 
     /// A move between trains and the constant.

@@ -7,9 +7,11 @@ use crate::search::{self, End};
 /// How often searches on blocks that lines from fresh leave were put to the test.
 #[derive(Default, Debug)]
 pub struct Stops {
-    /// Searches that ended at the bound, and those of them on studies with a forbidden entry.
+    /// Searches that ended at the bound, those of them on studies with a forbidden entry, and those whose bound is higher
+    /// in steps of the tariff (change 9) than the constant in points.
     pub met: usize,
     pub forbidden: usize,
+    pub in_steps: usize,
     /// Of these, searches that end without the rule too, after more tries; and searches that would be spent, with tries
     /// left and by their last one.
     pub fewer: usize,
@@ -46,6 +48,7 @@ impl Stops {
         let seen = |count: &mut usize, holds: bool| *count += usize::from(holds);
         self.met += 1;
         seen(&mut self.forbidden, !study.permits_all());
+        seen(&mut self.in_steps, cost > study.points(study.constant));
         seen(&mut self.fewer, !spent && count < old.count);
         seen(&mut self.with_tries_left, spent && count < budget);
         seen(&mut self.by_the_last, spent && count == budget);

@@ -5,6 +5,7 @@ use reference::generator::sessions;
 use reference::lines::{saved, MOVES};
 use reference::literals::Literals;
 use reference::model::{decode, Costs, Study, TOP};
+use reference::multiples::Multiples;
 use reference::operations;
 use reference::saves::Saves;
 use reference::stops::Stops;
@@ -25,8 +26,8 @@ fn the_claims_hold_by_every_plan() {
     assert!(tally.rounds > 1_000 && tally.settled > 500 && tally.settled_higher > 100, "{tally:?}");
     assert!(tally.bounds > 5_000 && tally.falls > 300, "{tally:?}");
     assert!(tally.ended > 500 && tally.spent_with_plan > 500 && tally.spent_without > 100, "{tally:?}");
-    let Stops { met, forbidden, fewer, with_tries_left, by_the_last, same } = tally.stops;
-    assert!(met > 500 && forbidden > 50 && fewer > 200 && same > 500, "{tally:?}");
+    let Stops { met, forbidden, in_steps, fewer, with_tries_left, by_the_last, same } = tally.stops;
+    assert!(met > 500 && forbidden > 50 && in_steps > 50 && fewer > 200 && same > 500, "{tally:?}");
     assert!(with_tries_left > 20 && by_the_last > 100, "{tally:?}");
     let Saves { loaded, rewritten, forbidden, given_back, of_clauses } = tally.saves;
     assert!(loaded > 500 && rewritten > 300 && forbidden > 200 && given_back > 500, "{tally:?}");
@@ -36,6 +37,9 @@ fn the_claims_hold_by_every_plan() {
     let Reasons { neither, own, partner, tight, without_plan } = tally.reasons;
     assert!(neither > 500 && own > 500 && partner > 200, "{tally:?}");
     assert!(tight.iter().chain(&without_plan).all(|&count| count > 30), "{tally:?}");
+    let Multiples { bounds, higher, forbidden, shown, stay } = tally.multiples;
+    assert!(bounds > 10_000 && higher > 1_000 && forbidden > 400 && stay > 5_000, "{tally:?}");
+    assert!(shown.iter().all(|&count| count > 15), "{tally:?}");
     for (ceilings, least) in tally.ceilings.iter().zip([500, 100]) {
         let Ceilings { certificates, reached, better_rivals, tight_rivals, .. } = ceilings;
         assert!(*certificates > 2 * least && *reached > least, "{tally:?}");

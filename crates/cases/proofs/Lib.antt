@@ -11,6 +11,7 @@ pub mod Rows
 pub mod Marked
 pub mod Equations
 pub mod Refusals
+pub mod Readings
 pub mod Unequal
 pub mod Saves
 pub mod GivenBack
@@ -18,6 +19,7 @@ pub mod Rounds
 pub mod Forbidden
 pub mod Clauses
 pub mod Reasons
+pub mod Steps
 pub mod Limits
 pub mod BlockLimits
 pub mod PlanCosts

@@ -59,6 +59,8 @@ table =
     ∷ row j "05 000001 000001 000000 000000 000001 000000 000001 000000 000000" "85 00 0000000000000002 000001" j
     -- case 7: 'J, tighten, budget 3'; document 02, change 6: 'case 7 says ended with count 3'
     ∷ row tight "06 00000003" "86 01 00000003 000000000002 00 01" tight
+    -- with one try less the bound is not met
+    ∷ row tight "06 00000002" "86 00 00000002 000000000003 00 00" tight
     -- case 8: 'J, budget 1: spent, count 1, no plan'
     ∷ row j "06 00000001" "86 00 00000001 FFFFFFFFFFFF FF FF" j
     -- case 9: 'J, u_0 = 2 with move 2 on train 0 choice 1, rest 0: accepted, c0 = 2'

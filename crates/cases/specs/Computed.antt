@@ -12,6 +12,8 @@ use Rattle.tables.specs.Block.{figure}
 use Rattle.tables.specs.WellFormed.{within, choice_used, entry_used, head_limits, shape_limits, cost_limits, limits_at, places_right, before, follows, pair_right, pairs_right, is_open, mate, mates, mated, is_zero, holds_study, well_formed, is_fresh}
 use Rattle.tables.specs.Numbers.{is_cost, permits, priced}
 use Rattle.tables.specs.Plans.{held_costs}
+use Rattle.bounds.specs.Steps.{euclid, gcd, step_of, rounded_to}
+use Rattle.bounds.specs.Bounds.{bound_of}
 use Rattle.operations.specs.Add.{added}
 use Rattle.operations.specs.Load.{loaded_block}
 use Rattle.operations.specs.Saved.{saved_cost, saved_numbers}
@@ -58,7 +60,7 @@ answer_on l b buffer =
 -- what each call leaves. Whoever opens this name opens the definitions of rows and blocks, and, crate by crate, those on the answer's way
 unfoldable pub computed : List Row → List Left
 unfolding text zeros marks closed place places rows grids laid held call row declined declined_long silent left_by said answer_on
-    rounded_up
+    rounded_up euclid gcd step_of rounded_to bound_of
     sum all pass figure within choice_used entry_used head_limits shape_limits cost_limits limits_at places_right before follows pair_right pairs_right is_open mate mates mated is_zero is_fresh holds_study well_formed is_cost permits priced held_costs
     iter down added loaded_block joined saved_cost saved_numbers
     literals_right other_of cell_of cell_from charged_to unnamed_to named codes_below pair_codes clause_numbers costs_within sums_within clauses_outcome

@@ -21,11 +21,11 @@ unfolding all
 each_entry s p = all s.pairs (λ k. all (s.size (s.first k)) (λ a. all (s.size (s.second k)) (p k a)))
 
 module _ (s : Shape) where
-  each_choice_true : (p : ℕ → ℕ → Bool) → each_choice s p ≡ true → (i a : ℕ) → i < s.trains → a < s.size i → p i a ≡ true
+  pub each_choice_true : (p : ℕ → ℕ → Bool) → each_choice s p ≡ true → (i a : ℕ) → i < s.trains → a < s.size i → p i a ≡ true
   unfolding each_choice
   each_choice_true p e i a h q = all_true (p i) (s.size i) (all_true (λ j. all (s.size j) (p j)) s.trains e i h) a q
 
-  each_entry_true : (p : ℕ → ℕ → ℕ → Bool) → each_entry s p ≡ true → (k a c : ℕ) → k < s.pairs → a < s.size (s.first k) → c < s.size (s.second k) → p k a c ≡ true
+  pub each_entry_true : (p : ℕ → ℕ → ℕ → Bool) → each_entry s p ≡ true → (k a c : ℕ) → k < s.pairs → a < s.size (s.first k) → c < s.size (s.second k) → p k a c ≡ true
   unfolding each_entry
   each_entry_true p e k a c h q r =
       all_true (p k a) (s.size (s.second k))

@@ -17,6 +17,8 @@ pub mod Saves
 pub mod Rounds
 pub mod Forbidden
 pub mod Stops
+pub mod BoundSteps
 pub mod ByComputing
 pub mod Uses
 pub mod UsesForbidden
+pub mod UsesSteps

@@ -1,5 +1,5 @@
--- The rule: demand 3, of calls by the definition of the answer and of calls as a caller saw them, a saved line and a load, what a round leaves, what stays forbidden, which searches end sooner, and what a
--- declined call leaves. There is no code.
+-- The rule: demand 3, of calls by the definition of the answer and of calls as a caller saw them, a saved line and a load, what a round leaves, what stays forbidden, which searches end sooner, that
+-- bounds are in steps of the tariff, and what a declined call leaves. There is no code.
 pub mod Ledger
 pub mod Claims
 pub mod Seen
@@ -7,4 +7,5 @@ pub mod Saves
 pub mod Rounds
 pub mod Forbidden
 pub mod Stops
+pub mod Steps
 pub mod Declined

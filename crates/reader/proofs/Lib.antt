@@ -2,4 +2,3 @@
 pub mod LineAccepted
 pub mod LineKind
 pub mod LineRefused
-pub mod Examples

@@ -1,6 +1,6 @@
 // Document 01, 'Replies', Search: the whole search, and what it answers.
 ghost use Rattle.std.specs.Prelude.{◌≡◌, ℕ, ◌+◌, ◌≤◌, ◌<◌, ◌^◌};
-ghost use Rattle.units.specs.Units.{number_of_parts, published};
+ghost use Rattle.units.specs.Units.{number_of_parts, in_points};
 ghost use Rattle.tables.specs.LineLimits.{max_budget};
 ghost use Rattle.search.specs.Held.{left_of, walk_of};
 ghost use Rattle.search.specs.Answer.{best_shown, shown, search_answer};
@@ -31,12 +31,12 @@ pub struct BestPlan {
 }
 
 // A total in points, rounded up.
-// One call, yet a function: its contract says 'the published bound', and the edit that shows the parts themselves changes its one line.
+// One call, yet a function: its contract says 'in points, rounded up', and the edit that shows the parts themselves changes its one line.
 fn cost_of(s: Scale, total: Parts) -> Points
     requires { number_of_parts total < 2 ^ 63 }
-    ensures { result ≡ published s total }
+    ensures { result ≡ in_points s total }
 {
-    s.bound(total)
+    s.points(total)
 }
 
 // The best plan, where one is known.

@@ -49,7 +49,7 @@ fn meets(table: &Table<'_>, total: Parts) -> bool
     requires { number_of_parts total < 2 ^ 63 }
     ensures { result ≡ meets_by table.now (number_of_parts total) }
 {
-    table.scale.bound(total) == table.bound
+    table.scale.points(total) == table.bound
 }
 
 impl<'a> Search<'a> {

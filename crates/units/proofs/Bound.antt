@@ -1,4 +1,4 @@
--- What the published bound is: the least number of points that covers the parts.
+-- What rounding up to points is: the least number of points that covers the parts.
 use mathlib.Core.Path.{◌≡◌, refl, sym}
 use mathlib.Core.Bool.{Bool, true, false, cond}
 use Rattle.std.specs.Prelude.{Some, None}
@@ -41,7 +41,7 @@ module _ (s : ℕ) (h : 0 < s) where
   pub rounded_most : (c : ℕ) → rounded_up s c ≤ c
   rounded_most c = rounded_least c c (omega (arith, le-mul_of_pos_right c h, mul_comm s c))
 
-  -- a whole number of points is published as itself
+  -- a whole number of points stays itself
   pub rounded_whole : (p : ℕ) → rounded_up s (s * p) ≡ p
   rounded_whole p =
       le_antisymm (rounded_least (s * p) p (omega arith)) (le_of_mul-le-mul_left (rounded_covers (s * p)) h)

@@ -40,6 +40,6 @@ in_parts s p = the_parts (s * p.0)
 unfoldable pub rounded_up : ℕ → ℕ → ℕ
 rounded_up s c = (c + (s - 1)) / s
 
--- 'The published bound' of c parts
-abbrev pub published : ℕ → Parts → Points
-published s c = the_points (rounded_up s c.0)
+-- c parts in points, rounded up
+abbrev pub in_points : ℕ → Parts → Points
+in_points s c = the_points (rounded_up s c.0)

@@ -2,7 +2,7 @@
 #![tactic(auto)]
 
 ghost use Rattle.std.specs.Prelude.{◌≡◌, ◌+◌, ◌≤◌, ◌<◌, ◌^◌};
-ghost use Rattle.units.specs.Units.{Sound, new_scale, scale_min, scale_max, in_parts, published};
+ghost use Rattle.units.specs.Units.{Sound, new_scale, scale_min, scale_max, in_parts, in_points};
 
 use std::marker::Model;
 use std::ops::Add;
@@ -152,9 +152,9 @@ impl Scale {
 
     // The least whole number of points that is not below so many parts.
     #[tactic(auto, unfolding(crate::specs::Units::rounded_up))]
-    pub fn bound(self, c: Parts) -> Points
+    pub fn points(self, c: Parts) -> Points
         requires { c.0 < 2 ^ 63 }
-        ensures { result ≡ published self c }
+        ensures { result ≡ in_points self c }
     {
         Points((c.0 + (self.0 - 1)) / self.0)
     }

@@ -1,6 +1,6 @@
 //! `claims [--reference] SEED SESSIONS`: checks document 01's claims and what is said of rounds, of forbidden entries, of
-//! stopping at the bound, of clauses and of reasons on sessions of small studies, and what is said of saves on as many sessions over
-//! studies of every size and blocks that no line makes.
+//! stopping at the bound, of clauses, of reasons and of bounds in steps on sessions of small studies, and what is said of saves on as
+//! many sessions over studies of every size and blocks that no line makes.
 
 use reference::claims::{check_session, Tally};
 use reference::random::Random;
