@@ -2,7 +2,7 @@
 
 use std::io::{self, Write};
 
-const BLOCK_NUMBERS: usize = 6652;
+const BLOCK_NUMBERS: usize = 6676;
 const REPLY_BYTES: usize = 72;
 
 const LINES: [&str; 4] = [

@@ -2,6 +2,7 @@
 
 import logging
 import sqlite3
+import struct
 from collections.abc import Callable
 from pathlib import Path
 from typing import NamedTuple
@@ -14,8 +15,18 @@ from hosting.library import Library, LibraryError
 from hosting.records import Damaged, Records, Start, Stored
 from hosting.store import NotServed, Study
 
+# How many places the order of trains has, behind the tables of a block of 6,652 numbers.
+ORDER_PLACES = 24
+
+
+def _with_order(block: bytes) -> bytes:
+    """A block of 6,652 numbers, behind which its trains stand in the order in which they were tried: 0 to n - 1, n being its first number, and zeros."""
+    trains = int.from_bytes(block[:NUMBER_BYTES], "little", signed=True)
+    return block + struct.pack(f"<{ORDER_PLACES}q", *(place if place < trains else 0 for place in range(ORDER_PLACES)))
+
+
 # How a block of one length becomes one of another, by the two lengths in numbers. Without a rule a study is not served.
-CARRIED: dict[tuple[int, int], Callable[[bytes], bytes]] = {}
+CARRIED: dict[tuple[int, int], Callable[[bytes], bytes]] = {(6652, 6676): _with_order}
 
 log = logging.getLogger(__name__)
 

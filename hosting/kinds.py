@@ -154,6 +154,14 @@ def _explain_words(facts: Facts) -> str:
     return f"explain train {facts['train']}, choice {facts['choice']}, against {counted(facts['limit'], 'point')}"
 
 
+def _read_order(fields: Fields) -> Facts:
+    return {"order": fields.numbers(fields.left(COUNT_WIDTH), COUNT_WIDTH)}
+
+
+def _order_words(facts: Facts) -> str:
+    return " ".join(["order", *map(str, facts["order"])])
+
+
 LINES: dict[int, Form] = {
     0x01: Form("load", _read_load, _load_words),
     0x02: Form("add", _read_add, _add_words),
@@ -165,6 +173,7 @@ LINES: dict[int, Form] = {
     0x08: Form("round", _nothing, lambda _: "round"),
     0x09: Form("clauses", _read_clauses, _clauses_words),
     0x0A: Form("explain", _read_explain, _explain_words),
+    0x0B: Form("order", _read_order, _order_words),
 }
 
 
@@ -226,6 +235,7 @@ REPLIES: dict[int, Form] = {
     0x85: Form("ceiling", _read_ceiling, _ceiling_words),
     0x86: Form("found", _read_found, _found_words),
     0x8A: Form("reason", _read_reason, _reason_words),
+    0x8B: Form("order", _read_order, _order_words),
     DECLINED: Form("declined", _read_declined, "declined, {number}".format_map),
     0x01: Form("saved", _read_load, lambda facts: f"saved, to {_load_words(facts)}"),
 }
@@ -235,7 +245,7 @@ REFUSALS: dict[int, str] = {
     1: "the line is empty, has an odd count of characters or one that is not 0-9 or A-F",
     2: "the line is over {header.line_characters:,} characters",
     3: "there is no such kind",
-    4: "kinds 02 to 08 and 0A on a fresh block",
+    4: "kinds 02 to 08, 0A and 0B on a fresh block",
     5: "a field is not wholly there, or bytes are left over",
     6: "n, s, a size, m or the count of clauses is outside the ranges",
     7: "a cost, the points to add or a clause's weight are over 1,000,000, but for a cost of FFFFFF in a load of kind 01, which forbids",
@@ -247,11 +257,12 @@ REFUSALS: dict[int, str] = {
     13: "W is outside 1 to 100,000",
     14: "the weights' sums disagree",
     15: "the budget is outside 1 to 10,000,000",
-    16: "the block has another length or is not well formed",
+    16: "the block has another length or is not well formed, its order of trains included",
     17: "the reply buffer is below {header.reply_bytes} bytes, or shorter than the line that a save answers with",
     18: "a weight above 0 on a forbidden entry, after 14",
     19: "a clause has a literal of an absent train, a first literal of 0, or one train twice, of either sign",
     20: "the clauses name more than 48 pairs",
+    21: "an order has not each train exactly once",
 }
 
 

@@ -16,6 +16,7 @@ TRAINS, SCALE, PAIRS, CONSTANT = 0, 1, 2, 3
 SIZES, FIRST_TRAINS, SECOND_TRAINS = 4, 28, 76
 CHOICE_COSTS = slice(124, 316)
 PAIR_COSTS = slice(508, 3580)
+ORDER = 6652
 FORBIDDEN = -1
 
 
@@ -89,6 +90,7 @@ def _study(library: Library, block: bytes) -> Facts:
         "forbidden_choices": numbers[CHOICE_COSTS].count(FORBIDDEN),
         "forbidden_pairs_of_choices": numbers[PAIR_COSTS].count(FORBIDDEN),
         "constant": numbers[CONSTANT],
+        "order": list(numbers[ORDER:ORDER + trains]),
     }
     return {**facts, "bound": _bound(library, block, facts)}
 
@@ -139,6 +141,8 @@ def _rows(facts: Facts) -> Iterator[tuple[str, str]]:
     pairs = " ".join(f"{i}-{j}" for i, j in facts["pairs"])
     yield "pairs", f"{len(facts['pairs'])}" + (f": {pairs}" if pairs else "")
     yield "forbidden", f"{counted(facts['forbidden_choices'], 'choice')}, {counted(facts['forbidden_pairs_of_choices'], 'pair of choices')}"
+    if facts["order"] != list(range(len(facts["order"]))):
+        yield "order", f"a search tries the trains in the order {' '.join(map(str, facts['order']))}"
     yield "constant", f"{counted(facts['constant'], 'part')}, in points {_mixed(Fraction(facts['constant'], facts['scale']))}"
     yield "bound", "not told by the library" if facts["bound"] is None else counted(facts["bound"], "point")
     yield "last plan", _plan_words(facts["last_plan"])

@@ -8,7 +8,7 @@
 #include <stdint.h>
 
 /* How many numbers a block has. A fresh block is all zeros. */
-#define JUNCTION_BLOCK_NUMBERS 6652
+#define JUNCTION_BLOCK_NUMBERS 6676
 /* The smallest reply buffer, in bytes. It holds every reply but the line of a save, kind 07, which may be longer. */
 #define JUNCTION_REPLY_BYTES 72
 /* The longest line, in characters. A longer one is declined under number 2. */
@@ -27,8 +27,8 @@ extern "C" {
  * What is proved, for every line, every block and every buffer, of any contents and any lengths (contract `Answers`, crates/requests/specs/Wrote.antt):
  * the result, the block afterwards and the whole buffer afterwards are those of the definition `answer` in crates/service/specs/Answer.antt. So:
  * - The first bytes of the buffer, as many as the result says, are the reply. Every byte behind them stays as it was.
- * - The block afterwards is the one that an accepted load, of kind 01 or of clauses (09), add, shift, tighten or directional round makes; certify, search,
- *   save and explain leave it as it was.
+ * - The block afterwards is the one that an accepted load, of kind 01 or of clauses (09), add, shift, tighten, directional round or order makes; certify,
+ *   search, save and explain leave it as it was.
  * - A declined line is answered FF and the number, four characters, and leaves the block as it was.
  * - A buffer below JUNCTION_REPLY_BYTES is number 17: the result is 0, and the buffer and the block stay as they were. So is a buffer that is shorter than
  *   the line that a save would answer with, where nothing else declines the save. Who saves lends JUNCTION_LONGEST_REPLY_BYTES.

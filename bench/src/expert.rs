@@ -5,7 +5,9 @@
 //! costs, and each pair the row of its second train over this pair and those before it. So a choice adds up
 //! only the pairs that its own train begins, and opening a train reads one row.
 //!
-//! It takes a search line and a well-formed block for granted: it checks nothing and refuses nothing.
+//! It takes a search line and a well-formed block for granted: it checks nothing and refuses nothing. It walks in loaded
+//! order, trains ascending, and does not look at the order that the block has: on a block with another one its answer is not
+//! the service's.
 
 use std::mem::replace;
 

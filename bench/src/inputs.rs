@@ -4,8 +4,9 @@ use reference::clause_lines::clause_fields;
 use reference::clauses::{Clause, Clauses};
 use reference::generator::{certificate_fields, line_of, load_fields, shift_fields};
 use reference::lines::{digits, put, CLAUSES};
-use reference::model::{self, Cost, Costs, Pair, Study, BLOCK_LENGTH};
+use reference::model::{self, Cost, Costs, Pair, Study, BLOCK_LENGTH, ORDER};
 use reference::operations::{self, Certificate};
+use reference::orders::order_fields;
 use reference::random::Random;
 use reference::rewriting::Rewriting;
 use std::iter::repeat_with;
@@ -42,13 +43,15 @@ pub struct Input {
 }
 
 impl Input {
-    pub fn is_search(&self) -> bool {
-        self.reply == SEARCH_REPLY
+    /// Whether the expert's walk answers it: a search in loaded order.
+    pub fn is_for_expert(&self) -> bool {
+        let trains = self.block[0] as usize;
+        self.reply == SEARCH_REPLY && self.block[ORDER][..trains].is_sorted()
     }
 }
 
-/// Every kind of line and some that are refused, on the small and on the full study; some lines in steps of the tariff, on
-/// these and on a full study in steps of 5.
+/// Every kind of line and some that are refused, on the small and on the full study, a search also in their turned order; some
+/// lines in steps of the tariff, on these and on a full study in steps of 5.
 pub fn short_inputs() -> Vec<Input> {
     let small = held_study(SMALL_LOAD.as_bytes());
     let full = full_study(SEED, 1_000_000, 1);
@@ -89,6 +92,8 @@ fn searches(name: &str, budget: i64) -> Vec<Input> {
 fn inputs_of(size: &str, study: &Study, clauses: Vec<u8>) -> Vec<Input> {
     let fresh = vec![0; BLOCK_LENGTH];
     let held = block_of(study);
+    let turned = Study { order: (0..study.trains.len()).rev().collect(), ..study.clone() };
+    let held_turned = block_of(&turned);
     let of_clauses = block_of(&held_study(&clauses));
     let load = line_of(&load_fields(study));
     let longest = line_of(&load_fields(&full_study(SEED, 1_000_000, 1)));
@@ -100,10 +105,12 @@ fn inputs_of(size: &str, study: &Study, clauses: Vec<u8>) -> Vec<Input> {
         ("tighten", &held, b"04".to_vec(), "84"),
         ("certify", &held, certify_line(study), "85"),
         ("search", &held, search_line(SMALL_BUDGET), SEARCH_REPLY),
+        ("search-turned", &held_turned, search_line(SMALL_BUDGET), SEARCH_REPLY),
         ("save", &held, b"07".to_vec(), "01"),
         ("round", &held, b"08".to_vec(), "88"),
         ("clauses", &of_clauses, clauses, "89"),
         ("explain", &held, explain_line(study), "8A"),
+        ("order", &held, line_of(&order_fields(&turned.order)), "8B"),
         ("refused-character", &held, with_end(&longest, b"G"), "FF01"),
         ("refused-cost", &held, with_end(&longest, b"FFFFFE"), "FF07"),
         ("refused-kind", &held, b"10".to_vec(), "FF03"),
@@ -149,7 +156,7 @@ fn full_study(seed: u64, top: i64, step: i64) -> Study {
     };
     let trains = (0..24).map(|_| costs(1)).collect();
     let pairs = keys.into_iter().map(|trains| Pair { trains, costs: costs(8) }).collect();
-    Study { scale, constant: 0, trains, pairs }
+    Study::loaded(scale, trains, pairs)
 }
 
 /// The study that a line of kind 01 or 09 loads.

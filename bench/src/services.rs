@@ -20,10 +20,10 @@ pub fn all() -> Result<[Named; 3], String> {
     ])
 }
 
-/// The services that answer a row's line: the expert's walk answers searches alone.
+/// The services that answer a row's line: the expert's walk answers searches in loaded order alone.
 pub fn answering(input: &Input) -> Result<Vec<Named>, String> {
     let mut services = Vec::from(all()?);
-    if !input.is_search() {
+    if !input.is_for_expert() {
         services.pop();
     }
     Ok(services)

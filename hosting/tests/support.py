@@ -41,6 +41,45 @@ size_t junction_answer(const uint8_t *line, size_t line_length, int64_t *block, 
 }
 """
 
+# The library before kind 0B, for blocks of 6,652 numbers: each line is answered by a library for blocks that hold an order too, the order
+# being 0 to n - 1.
+LIBRARY_BEFORE = """
+#include <dlfcn.h>
+#include <stddef.h>
+#include <stdint.h>
+#include <string.h>
+
+#define NUMBERS 6652
+#define PLACES 24
+
+typedef size_t answering(const uint8_t *, size_t, int64_t *, size_t, uint8_t *, size_t);
+
+static size_t declined(const char *text, uint8_t *reply)
+{
+    memcpy(reply, text, 4);
+    return 4;
+}
+
+size_t junction_answer(const uint8_t *line, size_t line_length, int64_t *block, size_t block_length, uint8_t *reply, size_t reply_length)
+{
+    int64_t longer[NUMBERS + PLACES] = {0};
+    answering *answer = (answering *)dlsym(dlopen(ANSWERING, RTLD_NOW), "junction_answer");
+    if (block_length != NUMBERS) {
+        return declined("FF10", reply);
+    }
+    if (line_length >= 2 && memcmp(line, "0B", 2) == 0) {
+        return declined("FF03", reply);
+    }
+    memcpy(longer, block, NUMBERS * sizeof *block);
+    for (int64_t train = 0; train < PLACES && train < block[0]; train++) {
+        longer[NUMBERS + train] = train;
+    }
+    size_t written = answer(line, line_length, longer, NUMBERS + PLACES, reply, reply_length);
+    memcpy(block, longer, NUMBERS * sizeof *block);
+    return written;
+}
+"""
+
 
 def reference(lines: list[bytes]) -> list[bytes]:
     """The replies of the reference to lines, from a fresh block."""
@@ -107,10 +146,16 @@ class DataCase(unittest.TestCase):
 
     def other_library(self, more_numbers: int = 0) -> Library:
         """A library that answers otherwise, and whose blocks are longer by some numbers."""
+        numbers = self.library.header.block_numbers + more_numbers
+        return self._made_library(f"other{more_numbers}.so", numbers, OTHER_LIBRARY, f"-DNUMBERS={numbers}")
+
+    def library_before(self) -> Library:
+        """A library for blocks of 6,652 numbers, without an order, that answers all other lines as the installed one."""
+        return self._made_library("before.so", 6652, LIBRARY_BEFORE, f'-DANSWERING="{self.library.path}"', "-ldl")
+
+    def _made_library(self, name: str, numbers: int, code: str, *options: str) -> Library:
         if shutil.which("cc") is None:
             self.skipTest("another library is made by a C compiler: there is no command 'cc' on the path")
-        lengths = self.library.header._replace(block_numbers=self.library.header.block_numbers + more_numbers)
-        path = self.data / f"other{more_numbers}.so"
-        command = ["cc", "-shared", "-fPIC", f"-DNUMBERS={lengths.block_numbers}", "-x", "c", "-", "-o", path]
-        subprocess.run(command, input=OTHER_LIBRARY, text=True, check=True)
-        return Library(path, lengths)
+        path = self.data / name
+        subprocess.run(["cc", "-shared", "-fPIC", "-x", "c", "-", "-o", path, *options], input=code, text=True, check=True)
+        return Library(path, self.library.header._replace(block_numbers=numbers))

@@ -2,13 +2,16 @@
 
 import random
 import shutil
+import struct
+import unittest
 from unittest import mock
 
 from hosting import checks, records, store
 from hosting.checks import Findings
+from hosting.header import Header
 from hosting.library import Library
 from hosting.store import NotServed, Unusable
-from hosting.tests.support import ADD, LINES, LOAD, REPLIES, SEARCH, TIGHTEN, DataCase
+from hosting.tests.support import ADD, LINES, LOAD, REPLIES, SEARCH, TIGHTEN, DataCase, full_load
 
 LOG = "hosting.checks"
 # SQLite's pages, and the number of the next page with which a page of a long row begins.
@@ -264,6 +267,124 @@ class Libraries(CheckedCase):
             self.assertEqual(self.take([TIGHTEN], longer), [b"BB"])
             self.assertEqual(self.block(), before + (1).to_bytes(8, "little"))
             self.assertEqual(self.verify(longer).wrong, [])
+
+
+class Carried(unittest.TestCase):
+    """Blocks of 6,652 numbers get the order of trains in which they were searched."""
+
+    def carried(self, *front: int) -> list[int]:
+        """What the places from 6652 on hold of a block that begins so, the others being 0 to 6651 backwards; these stay."""
+        block = [*front, *range(6651 - len(front), -1, -1)]
+        numbers = struct.unpack("<6676q", checks.carried(struct.pack("<6652q", *block), Header(6676, 72, 19834, 19834)))
+        self.assertEqual(list(numbers[:6652]), block)
+        return list(numbers[6652:])
+
+    def test_orders(self) -> None:
+        self.assertEqual(checks.carried(bytes(8 * 6652), Header(6676, 72, 19834, 19834)), bytes(8 * 6676))
+        for trains in (1, 2, 23, 24):
+            self.assertEqual(self.carried(trains, 1), [*range(trains), *[0] * (24 - trains)])
+
+    def test_blocks_that_were_not_well_formed_stay_so(self) -> None:
+        self.assertEqual(self.carried(0, 1), [0] * 24)
+        self.assertEqual(self.carried(-1), [0] * 24)
+        self.assertEqual(self.carried(25), list(range(24)))
+
+    def test_other_lengths_have_no_rule(self) -> None:
+        for stored, taken in ((6651, 6676), (6675, 6676), (6677, 6676), (6652, 6653), (6676, 6652)):
+            with self.assertRaisesRegex(NotServed, f"the block has {stored} numbers, those of the library have {taken}, and there is no rule"):
+                checks.carried(bytes(8 * stored), Header(taken, 72, 19834, 19834))
+
+
+class LibraryBefore(CheckedCase):
+    """A data folder of the library before kind 0B is served, goes on and verifies."""
+
+    TURN, TURNED = b"0B0100", b"8B0100"
+
+    def setUp(self) -> None:
+        super().setUp()
+        self.before = self.library_before()
+
+    def take_before(self, lines: list[bytes], replies: list[bytes]) -> bytes:
+        """The study's lines are answered by the library before; gives the block that is then stored, of 6,652 numbers."""
+        self.assertEqual(self.take(lines, self.before), replies)
+        block = self.block()
+        self.assertEqual(len(block), 8 * 6652)
+        return block
+
+    def assert_goes_on(self, block: bytes, order: list[int], lines: list[bytes], replies: list[bytes]) -> None:
+        """The installed library answers these lines from the block and this order, and both libraries' lines agree."""
+        expected = block + struct.pack("<24q", *order, *[0] * (24 - len(order)))
+        study = self.open()
+        first = study.count + 1
+        self.assertEqual(study.block, expected)
+        self.assertEqual([study.take(line) for line in lines], replies)
+        with store.reading(self.data, "study") as read:
+            self.assertEqual((read.starts()[-1].number, read.starts()[-1].block), (first, expected))
+        for installed in (self.library, self.before):
+            findings = self.verify(installed)
+            self.assertEqual(findings.wrong, [])
+            self.assertRegex(findings.said[1], f"library {self.before.sha256}: lines 1 to {first - 1}: ([0-9]+) of \\1 agree")
+            self.assertEqual(findings.said[2], f"library {self.library.sha256}: lines {first} to {study.count}: {len(lines)} of {len(lines)} agree")
+
+    def test_a_study_goes_on(self) -> None:
+        block = self.take_before(LINES[:8], REPLIES[:8])
+        self.assertEqual(self.verify().wrong, [])
+        self.assert_goes_on(block, [0, 1], [*LINES[8:], self.TURN], [*REPLIES[8:], self.TURNED])
+        self.assert_not_served("the block has 6676 numbers, those of the library have 6652, and there is no rule", self.before)
+
+    def test_a_study_without_a_load_goes_on(self) -> None:
+        block = self.take_before([TIGHTEN, b""], [b"FF04", b"FF01"])
+        self.assertFalse(any(block))
+        self.assert_goes_on(block, [], LINES, REPLIES)
+
+    def test_a_study_of_all_trains_goes_on(self) -> None:
+        load = full_load()
+        block = self.take_before([load], [b"81" + b"0" * 24])
+        self.assert_goes_on(block, list(range(24)), [b"07", self.TURN], [load, b"FF05"])
+
+    def test_a_study_goes_on_after_compact(self) -> None:
+        block = self.take_before([*LINES[:8], SEARCH, SEARCH, TIGHTEN], [*REPLIES[:8], *[REPLIES[11]] * 2, REPLIES[14].replace(b"88", b"84")])
+        self.assertEqual(checks.compact(self.data, "study"), (6, 5))
+        self.assert_goes_on(block, [0, 1], [SEARCH, self.TURN, b"07"], [REPLIES[11], self.TURNED, REPLIES[12]])
+        self.assertEqual(checks.compact(self.data, "study"), (2, 6))
+        self.assertEqual(self.verify().wrong, [])
+
+    def test_a_block_that_the_log_gives(self) -> None:
+        block = self.take_before(LINES[:8], REPLIES[:8])
+        self.edit("DELETE FROM block")
+        with self.assertLogs(LOG, "ERROR") as logged:
+            self.open().close()
+        self.assertIn("the log gives the true block", logged.output[0])
+        self.assertEqual(self.block(), block)
+        self.assert_goes_on(block, [0, 1], LINES[8:], REPLIES[8:])
+
+    def test_a_block_that_the_log_gives_after_compact(self) -> None:
+        block = self.take_before(LINES[:8], REPLIES[:8])
+        checks.compact(self.data, "study")
+        wrong = bytearray(block)
+        wrong[24] ^= 1
+        self.edit("UPDATE block SET packed = ?", records.pack(bytes(wrong)))
+        with self.assertLogs(LOG, "ERROR"):
+            self.open().close()
+        self.assertEqual(self.block(), block)
+        self.assert_goes_on(block, [0, 1], LINES[8:], REPLIES[8:])
+
+    def test_without_the_library_before_its_lines_cannot_be_taken_again(self) -> None:
+        block = self.take_before(LINES[:8], REPLIES[:8])
+        (store.libraries(self.data) / f"{self.before.sha256}.so").unlink()
+        study = self.open()
+        self.assertEqual(study.block, block + struct.pack("<24q", 0, 1, *[0] * 22))
+        self.assertEqual([study.take(line) for line in LINES[8:]], REPLIES[8:])
+        self.assert_found(f"lines 1 to 8 could not be taken again: library {self.before.sha256} is not at hand")
+
+    def test_an_order_is_kept_and_verified(self) -> None:
+        lines, replies = [LOAD, TIGHTEN, self.TURN, SEARCH], [REPLIES[0], REPLIES[1], self.TURNED, b"8601000000050000000000020001"]
+        self.assertEqual(self.take(lines), replies)
+        self.edit("DELETE FROM block")
+        with self.assertLogs(LOG, "ERROR"):
+            self.assertEqual(self.take([SEARCH]), replies[3:])
+        self.assertEqual(struct.unpack("<24q", self.block()[8 * 6652:]), (1, 0, *[0] * 22))
+        self.assertEqual(self.verify().wrong, [])
 
 
 class Compact(CheckedCase):

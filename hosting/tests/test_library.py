@@ -14,7 +14,7 @@ from hosting.tests.support import DataCase
 
 class Headers(unittest.TestCase):
     def test_the_header_says_the_lengths_of_document_01(self) -> None:
-        self.assertEqual(header.read(support.ROOT / "include/junction.h"), Header(6652, 72, 19834, 19834))
+        self.assertEqual(header.read(support.ROOT / "include/junction.h"), Header(6676, 72, 19834, 19834))
 
     def test_a_length_is_a_number_or_the_name_of_another(self) -> None:
         text = "#define JUNCTION_BLOCK_NUMBERS 1\n#define JUNCTION_REPLY_BYTES 2\n#define JUNCTION_LINE_CHARACTERS 3\n"

@@ -64,8 +64,13 @@ class Log(unittest.TestCase):
         self.assertEqual(in_words(asked, "8A 01 FF").split("->  ")[1], "out by itself")
         self.assertEqual(in_words(asked, "8A 02 00").split("->  ")[1], "out, with train 0")
 
+    def test_orders(self) -> None:
+        self.assertEqual(in_words("0B 020001", "8B 020001"), "order 2 0 1  ->  order 2 0 1")
+        self.assertEqual(in_words("0B 0000", "FF 15"), "order 0 0  ->  declined, 21: an order has not each train exactly once")
+        self.assertEqual(in_words("0B", "FF 05").split("  ->")[0], "order")
+
     def test_what_is_not_known_is_its_number(self) -> None:
-        self.assertEqual(in_words("0B 0001", "8B 0001"), "kind 0B  ->  kind 8B")
+        self.assertEqual(in_words("0C 0001", "8C 0001"), "kind 0C  ->  kind 8C")
         self.assertEqual(in_words("04", "FF 63"), "tighten  ->  declined, 99")
 
     def test_damaged_texts(self) -> None:
@@ -146,6 +151,18 @@ class Show(unittest.TestCase):
             "last plan ended after 2 tries: plan 0 0 costs 1 point, and no plan costs less (line 4)",
             "ceiling   8/2 parts, in points 2, not reached (line 3)",
         ])
+
+    def test_an_order_is_shown_where_it_is_not_that_of_a_load(self) -> None:
+        self.take(HALVES)
+        self.assertEqual((self.facts()["order"], "order" in self.text()), ([0, 1], False))
+        self.take("0B 01 00")
+        self.assertEqual(self.facts()["order"], [1, 0])
+        self.assertIn("1 pair of choices\norder     a search tries the trains in the order 1 0\nconstant", self.text())
+        self.take("0B 00 01")
+        self.assertNotIn("order", self.text())
+        self.take("0B 01 00")
+        self.take(CLOSED_CHOICE)
+        self.assertEqual((self.facts()["order"], "order" in self.text()), ([0], False))
 
     def test_parts_of_a_point_round_up_to_the_bound(self) -> None:
         self.take("01 01 0002 01 000002 00")

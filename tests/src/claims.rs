@@ -1,11 +1,12 @@
 //! The claims of "Lists and the ledger", of saves, of rounds, of forbidden entries, of stopping at the bound, of clauses, of
-//! reasons and of bounds in steps, checked from the outside by every plan of small studies.
+//! reasons, of bounds in steps and of orders, checked from the outside by every plan of small studies.
 
 use crate::generator::{Reach, Session};
 use crate::lines;
 use crate::literals::{Literals, Text};
 use crate::model::{Cost, Costs, Pair, Study, BLOCK_LENGTH, FORBIDDEN};
 use crate::multiples::{Multiples, Tariff};
+use crate::orders::Orders;
 use crate::random::Random;
 use crate::rewriting::Rewriting;
 use crate::saves::Saves;
@@ -34,6 +35,7 @@ pub struct Tally {
     pub clauses: Literals,
     pub reasons: Reasons,
     pub multiples: Multiples,
+    pub orders: Orders,
     pub saves: Saves,
 }
 
@@ -116,7 +118,7 @@ struct Ledger {
 }
 
 /// "A line is accepted if its reply isn't empty and doesn't begin with FF."
-fn accepted(reply: &[u8]) -> bool {
+pub(crate) fn accepted(reply: &[u8]) -> bool {
     !reply.is_empty() && !reply.starts_with(b"FF")
 }
 
@@ -162,7 +164,7 @@ impl Ledger {
             Pair { trains, costs: fields.costs(rows, columns) }
         };
         let pairs = (0..m).map(pair).collect();
-        Self { scale, costs: Study { scale: 1, constant: 0, trains, pairs } }
+        Self { scale, costs: Study::loaded(1, trains, pairs) }
     }
 
     fn of_clauses(mut fields: Reader) -> Self {
@@ -448,6 +450,7 @@ impl Step<'_> {
     /// Every claim after the call, by the ledger that was fed it.
     fn check(&self, ledger: Option<&Ledger>, random: &mut Random, tally: &mut Tally) -> Result<(), String> {
         self.check_change()?;
+        tally.orders.check_block(self.line, self.reply, self.before, self.block)?;
         tally.calls += 1;
         tally.falls += usize::from(self.reply.starts_with(b"83") && self.block[3] < self.before[3]);
         let Some(ledger) = ledger else { return Ok(()) };
@@ -478,9 +481,11 @@ impl Step<'_> {
             Some(b"85") => ledger.check_certificate(reply, block[3], plans, random, tally),
             Some(b"86") => {
                 ledger.check_search(reply, plans, tally)?;
-                tally.stops.check(block, line, reply)
+                tally.stops.check(block, line, reply)?;
+                tally.orders.check_searches(service, block, line, random, plans)
             }
             Some(b"8A") => ledger.check_reason(line, reply, plans, &mut tally.reasons),
+            Some(b"8B") => tally.orders.check_reply(line, reply, ledger.costs.trains.len()),
             Some(shown) => {
                 if shown == b"81" {
                     tally.saves.check_load(service, block, line)?;

@@ -53,6 +53,6 @@ impl Clauses {
         };
         let trains = choices.into_iter().map(|row| table(&[row])).collect();
         let pair = |(trains, rows): ([usize; 2], [[i64; 2]; 2])| Pair { trains, costs: table(&rows) };
-        Ok(Study { scale: self.scale, constant: 0, trains, pairs: pairs.into_iter().map(pair).collect() })
+        Ok(Study::loaded(self.scale, trains, pairs.into_iter().map(pair).collect()))
     }
 }

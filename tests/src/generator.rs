@@ -3,8 +3,9 @@
 use crate::calls::{Call, Outcome, Setting};
 use crate::clause_lines;
 use crate::lines::{self, LONGEST_LINE, MOVES};
-use crate::model::{self, Cost, Costs, Pair, Study, BLOCK_LENGTH, FORBIDDEN, TOP};
+use crate::model::{self, Cost, Costs, Pair, Study, BLOCK_LENGTH, FORBIDDEN, HELD_ENTRIES, ORDER, TOP};
 use crate::operations::{self, Certificate, Shift};
+use crate::orders::{any_order, damaged, order_fields};
 use crate::random::Random;
 use crate::reasons::beside;
 use crate::rewriting::Rewriting;
@@ -60,7 +61,7 @@ impl Session {
         let mut setting = Setting::AsLeft;
         if model::decode(block).is_ok() {
             self.good = block.to_vec();
-            if self.reach == Reach::Blocks && self.random.chance(20) {
+            if self.reach == Reach::Blocks && self.random.chance(23) {
                 setting = self.setting(block);
             }
         } else if self.reach == Reach::Blocks && self.random.chance(70) {
@@ -94,14 +95,17 @@ impl Session {
     }
 
     fn setting(&mut self, block: &[i64]) -> Setting {
-        match self.random.below(11) {
+        match self.random.below(13) {
             0 => {
                 let near = BLOCK_LENGTH - 1 + 2 * self.random.below(2);
                 let far = self.random.below(2 * BLOCK_LENGTH);
-                Setting::Length(self.random.pick(&[0, 1, near, near, far, BLOCK_LENGTH]))
+                // Without the places of the order, and one number less.
+                let without = ORDER.start - self.random.below(2);
+                Setting::Length(self.random.pick(&[0, 1, near, near, far, without, without, BLOCK_LENGTH]))
             }
             1 | 2 => Setting::Edited(vec![self.strange_place()]),
             7 | 8 => Setting::Edited(self.strange_entry(block)),
+            11 => Setting::Edited(self.strange_order(block)),
             choice => {
                 let present = model::decode(block).ok().flatten();
                 let mut study = match present {
@@ -111,7 +115,11 @@ impl Session {
                 match choice {
                     4 => mispair(&mut self.random, &mut study),
                     9 | 10 => self.beside_bound(&mut study),
+                    12 => study.order = any_order(&mut self.random, &study.order),
                     _ => self.foreign(&mut study),
+                }
+                if self.random.chance(20) {
+                    study.order = any_order(&mut self.random, &study.order);
                 }
                 let mut wanted = block.to_vec();
                 study.encode(&mut wanted);
@@ -134,7 +142,7 @@ impl Session {
         if random.chance(8) {
             return vec![(3, number)];
         }
-        let places = (124..BLOCK_LENGTH).filter(|&place| block[place] == FORBIDDEN);
+        let places = (124..HELD_ENTRIES.end).filter(|&place| block[place] == FORBIDDEN);
         let forbidden: Vec<usize> = places.collect();
         if number == 0 && !forbidden.is_empty() {
             return vec![(random.pick(&forbidden), number)];
@@ -159,6 +167,23 @@ impl Session {
             1 => vec![(held, number)],
             _ => vec![(loaded, number), (held, number)],
         }
+    }
+
+    /// Numbers of the order's places, used or not, which mostly make the block ill formed: a train twice, none that there
+    /// is, or one in a place that must be 0.
+    fn strange_order(&mut self, block: &[i64]) -> Vec<(usize, i64)> {
+        let random = &mut self.random;
+        let n = block[0];
+        let place = match random.below(3) {
+            0 if n < ORDER.len() as i64 => ORDER.start + n as usize,
+            1 => ORDER.start + random.below(n.max(1) as usize),
+            _ => random.pick(&ORDER.collect::<Vec<_>>()),
+        };
+        let other = block[ORDER.start + random.below(n.max(1) as usize)];
+        let own = (place - ORDER.start) as i64;
+        let train = random.between(0, n);
+        let number = random.pick(&[other, other, own, train, n, -1, 0, 1, 255, i64::MAX, i64::MIN]);
+        vec![(place, number)]
     }
 
     /// Gives the study a c0 and a T that have nothing to do with H.
@@ -242,7 +267,7 @@ impl Session {
             }
         };
         let in_steps = study.bound() > study.points(study.constant);
-        match self.random.below(30) {
+        match self.random.below(33) {
             _ if load => load_fields(study),
             _ if in_steps && self.random.chance(30) => vec![(1, 6), (4, self.budget(study))],
             0..=3 => self.add(study),
@@ -252,6 +277,7 @@ impl Session {
             16..=18 => vec![(1, 7)],
             19..=21 => vec![(1, 8)],
             22..=24 => self.question(study),
+            25..=27 => self.order(study),
             _ => vec![(1, 6), (4, self.budget(study))],
         }
     }
@@ -293,7 +319,7 @@ impl Session {
         let trains = sizes.iter().map(|&size| costs(random, 1, size)).collect();
         let keys = pairs(random, n, full);
         let pair = |[i, j]: [usize; 2]| Pair { trains: [i, j], costs: costs(random, sizes[i], sizes[j]) };
-        let mut study = Study { scale, constant: 0, trains, pairs: keys.into_iter().map(pair).collect() };
+        let mut study = Study::loaded(scale, trains, keys.into_iter().map(pair).collect());
         (0..random.pick(&[0, 0, 1, 1, 2])).for_each(|_| forbid(random, &mut study));
         study
     }
@@ -352,6 +378,16 @@ impl Session {
             _ => (train, choice),
         };
         vec![(1, 10), (1, train as i64), (1, choice as i64), (4, limit)]
+    }
+
+    /// An order of the study's trains, or one that is none.
+    fn order(&mut self, study: &Study) -> Fields {
+        let random = &mut self.random;
+        let order = any_order(random, &study.order);
+        match random.chance(20) {
+            true => damaged(random, &order),
+            false => order_fields(&order),
+        }
     }
 
     fn shift(&mut self, study: &Study) -> Fields {
@@ -480,7 +516,7 @@ impl Session {
             _ => random
                 .pick(&[
                     "00", "10", "81", "FF", "1", "01", "02", "03", "0400", "05", "06", "0700", "070707",
-                    "0800", "080808", "09", "0901", "0A", "0A00", "0A0000", "0B",
+                    "0800", "080808", "09", "0901", "0A", "0A00", "0A0000", "0B", "0B00", "0C",
                 ])
                 .into(),
         }
@@ -493,7 +529,7 @@ pub fn sessions(count: u64, mut see: impl FnMut(&Call, &[i64], &Outcome)) {
     for seed in 0..count {
         let mut session = Session::new(seed, Reach::Blocks);
         let mut block = vec![0; BLOCK_LENGTH];
-        for _ in 0..50 {
+        for _ in 0..55 {
             let call = session.call(&block);
             let mut given = block.clone();
             if let Setting::Edited(edits) = &call.setting {

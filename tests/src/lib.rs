@@ -11,6 +11,7 @@ pub mod literals;
 pub mod model;
 pub mod multiples;
 pub mod operations;
+pub mod orders;
 pub mod product;
 pub mod random;
 pub mod reasons;
@@ -56,10 +57,10 @@ pub fn answer(line: &[u8], block: &mut [i64], reply: &mut [u8]) -> usize {
     digits.len()
 }
 
-/// The reply's bytes. The block is written only where a line of kinds 01 to 04, 08 or 09 is accepted.
+/// The reply's bytes. The block is written only where a line of kinds 01 to 04, 08, 09 or 0B is accepted.
 fn respond(line: &[u8], block: &mut [i64]) -> Result<Vec<u8>, Refusal> {
     // "Order: 17, 16, 2, 1, 3, 4. Then fields from left to right ... Then 10, 12 or 14." Change 7: "20 ..., after 5 and
-    // before 10."
+    // before 10." Change 10: "21 ..., after 5."
     let state = model::decode(block)?;
     let (kind, fields) = lines::open(line)?;
     let present = || state.ok_or(Refusal::Fresh);
@@ -94,6 +95,7 @@ fn respond(line: &[u8], block: &mut [i64]) -> Result<Vec<u8>, Refusal> {
             Ok(lines::saved(&study))
         }
         Kind::Explain => explain(&present()?, fields),
+        Kind::Order => order(present()?, fields, block),
     }
 }
 
@@ -158,6 +160,14 @@ fn explain(study: &Study, fields: Fields) -> Result<Vec<u8>, Refusal> {
         Reason::Partner(train) => (2, train as u8),
     };
     Ok(vec![0x8A, reason, train])
+}
+
+/// "Kind 0B gives n train numbers. ... The reply is 8B and the order."
+fn order(mut study: Study, fields: Fields, block: &mut [i64]) -> Result<Vec<u8>, Refusal> {
+    study.order = lines::order(fields, &study)?;
+    study.encode(block);
+    let numbers = study.order.iter().map(|&train| train as u8);
+    Ok([0x8B].into_iter().chain(numbers).collect())
 }
 
 /// "A program reads standard input, starts fresh, and prints a reply line for each input line; a

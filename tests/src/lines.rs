@@ -1,7 +1,7 @@
 //! Lines: digits, kinds and fields, "from left to right, each judged as soon as it is read".
 
 use crate::clauses::{Clause, Clauses};
-use crate::model::{Costs, Pair, Refusal, Study, COSTS, PAIRS, SCALES, SIZES, TRAINS};
+use crate::model::{self, Costs, Pair, Refusal, Study, COSTS, PAIRS, SCALES, SIZES, TRAINS};
 use crate::operations::{Add, Certificate, Shift};
 use crate::reasons::Question;
 use std::ops::RangeInclusive;
@@ -30,6 +30,7 @@ pub enum Kind {
     Round,
     Clauses,
     Explain,
+    Order,
 }
 
 /// The bytes behind the kind, read from the left.
@@ -135,6 +136,7 @@ pub fn open(line: &[u8]) -> Result<(Kind, Fields), Refusal> {
         8 => Kind::Round,
         9 => Kind::Clauses,
         10 => Kind::Explain,
+        11 => Kind::Order,
         _ => return Err(Refusal::NoSuchKind),
     };
     Ok((kind, Fields { bytes, next: 1 }))
@@ -172,7 +174,7 @@ pub fn load(mut fields: Fields) -> Result<Study, Refusal> {
         pairs.push(Pair { trains: [i, j], costs: Costs::new(sizes[i], sizes[j], loaded, scale) });
     }
     fields.end()?;
-    Ok(Study { scale, constant: 0, trains, pairs })
+    Ok(Study::loaded(scale, trains, pairs))
 }
 
 /// "n, s, count ..., then for each clause two signed one-byte literals and a weight (3)." 19 is "judged after both
@@ -260,4 +262,12 @@ pub fn question(mut fields: Fields, study: &Study) -> Result<Question, Refusal> 
     let limit = fields.number(4)?;
     fields.end()?;
     Ok(Question { train, choice, limit })
+}
+
+/// "Kind 0B gives n train numbers." "Not each train exactly once" is 21, "after 5 (9 isn't used for 0B)": no number is
+/// judged by itself.
+pub fn order(mut fields: Fields, study: &Study) -> Result<Vec<usize>, Refusal> {
+    let numbers = fields.numbers(study.trains.len(), 1)?;
+    fields.end()?;
+    model::order(&numbers).ok_or(Refusal::Order)
 }

@@ -68,7 +68,7 @@ impl Text {
             |i: i64, j: i64| self.0.iter().any(|([z, w], _)| [[i, j], [j, i]].contains(&[z.abs(), w.abs()]));
         let keys = (1..=last).flat_map(|i| (i + 1..=last).map(move |j| (i, j)));
         let pairs = keys.filter(|&(i, j)| named(i, j)).map(|(i, j)| pair(i, j)).collect();
-        Study { scale: 1, constant: 0, trains: (1..=last).map(train).collect(), pairs }
+        Study::loaded(1, (1..=last).map(train).collect(), pairs)
     }
 
     /// Whether two clauses have the same literals, in either order.

@@ -1,9 +1,13 @@
 //! The problem of document 01 as structs, and its state block.
 
 use crate::steps;
-use std::ops::RangeInclusive;
+use std::ops::{Range, RangeInclusive};
 
-pub const BLOCK_LENGTH: usize = 6_652;
+/// Change 10: "The block gains 24 places from 6652" for the order.
+pub const BLOCK_LENGTH: usize = 6_676;
+/// The places of T of pairs, and those of the order behind them.
+pub const HELD_ENTRIES: Range<usize> = 3_580..6_652;
+pub const ORDER: Range<usize> = 6_652..BLOCK_LENGTH;
 pub const TRAINS: RangeInclusive<i64> = 1..=24;
 pub const SCALES: RangeInclusive<i64> = 1..=1_000;
 pub const SIZES: RangeInclusive<i64> = 1..=8;
@@ -43,6 +47,8 @@ pub enum Refusal {
     Literal = 19,
     /// "Over 48 pairs."
     Pairs = 20,
+    /// "Not each train exactly once, after 5."
+    Order = 21,
 }
 
 /// The cost of a permitted entry: H in points, T in parts.
@@ -128,9 +134,25 @@ pub struct Study {
     pub constant: i64,
     pub trains: Vec<Costs>,
     pub pairs: Vec<Pair>,
+    /// "The walk opens trains in that order."
+    pub order: Vec<usize>,
+}
+
+/// The order that numbers give, if it is "each train exactly once" of as many trains as numbers.
+pub fn order(numbers: &[i64]) -> Option<Vec<usize>> {
+    let mut ascending = numbers.to_vec();
+    ascending.sort();
+    let once = ascending.into_iter().eq(0..numbers.len() as i64);
+    once.then(|| numbers.iter().map(|&train| train as usize).collect())
 }
 
 impl Study {
+    /// A study as a load leaves it: "c0 becomes 0", and a load "sets 0 to n−1".
+    pub fn loaded(scale: i64, trains: Vec<Costs>, pairs: Vec<Pair>) -> Self {
+        let order = (0..trains.len()).collect();
+        Self { scale, constant: 0, trains, pairs, order }
+    }
+
     pub fn size(&self, train: usize) -> usize {
         self.trains[train].columns
     }
@@ -192,6 +214,7 @@ impl Study {
             write_rows(&mut block[508 + 64 * number..], costs, |cost| cost.loaded);
             write_rows(&mut block[3_580 + 64 * number..], costs, |cost| cost.held);
         }
+        block[ORDER].iter_mut().zip(&self.order).for_each(|(place, &train)| *place = train as i64);
     }
 }
 
@@ -249,7 +272,9 @@ fn study(block: &[i64]) -> Option<Study> {
             None => drop(costs(loaded, held, 0, 0)?),
         }
     }
-    Some(Study { scale, constant, trains, pairs })
+    // "A loaded block's order is judged likewise under 16."
+    let order = order(used(&block[ORDER], n as usize, &(0..=n - 1))?)?;
+    Some(Study { scale, constant, trains, pairs, order })
 }
 
 /// The first `count` places, where each lies in the range and all places behind are 0.

@@ -4,7 +4,8 @@ use crate::calls::{Call, Setting};
 use crate::claims::demand;
 use crate::generator::{Reach, Session};
 use crate::lines::LONGEST_LINE;
-use crate::model::{self, BLOCK_LENGTH, FORBIDDEN};
+use crate::model::{self, BLOCK_LENGTH, FORBIDDEN, ORDER};
+use crate::orders;
 use crate::{Service, LEAST_BUFFER, LONGEST_REPLY};
 use std::ops::Range;
 
@@ -13,9 +14,11 @@ use std::ops::Range;
 pub struct Saves {
     /// Saved lines that were loaded again.
     pub loaded: usize,
-    /// Of these, saves of blocks whose T isn't s × H or whose c0 isn't 0, and of blocks with a forbidden entry.
+    /// Of these, saves of blocks whose T isn't s × H or whose c0 isn't 0, of blocks with a forbidden entry, and of blocks with
+    /// another order than a load sets.
     pub rewritten: usize,
     pub forbidden: usize,
+    pub ordered: usize,
     /// Loads that a save gave back, and saves straight after lines of clauses.
     pub given_back: usize,
     pub of_clauses: usize,
@@ -43,11 +46,12 @@ fn reply(service: Service, line: &[u8], block: &mut [i64], capacity: usize) -> V
 
 impl Saves {
     /// "Loading that line gives the same n, s, sizes, pairs and H", into a fresh block and into the one
-    /// that was saved; "T becomes s × H, c0 becomes 0".
+    /// that was saved; "T becomes s × H, c0 becomes 0". A load "sets 0 to n−1".
     pub fn check_saved(&mut self, service: Service, block: &[i64], saved: &[u8]) -> Result<(), String> {
         self.loaded += 1;
         self.rewritten += usize::from(!as_loaded(block));
         self.forbidden += usize::from(block.contains(&FORBIDDEN));
+        self.ordered += usize::from(block[ORDER] != orders::loaded(block[0]));
         demand(saved.len() <= LONGEST_LINE, "a saved line is too long")?;
         for before in [&[0; BLOCK_LENGTH], block] {
             let mut after = before.to_vec();
@@ -55,7 +59,8 @@ impl Saves {
             demand(loaded.starts_with(b"81"), "a saved line isn't loaded")?;
             let same = LOADED.into_iter().all(|places| after[places.clone()] == block[places]);
             demand(same, "a saved line loads other numbers")?;
-            demand(as_loaded(&after), "a saved line isn't loaded as it must be")?;
+            let order = after[ORDER] == orders::loaded(after[0]);
+            demand(as_loaded(&after) && order, "a saved line isn't loaded as it must be")?;
         }
         Ok(())
     }

@@ -74,7 +74,7 @@ pub fn clique(random: &mut Random) -> Study {
     };
     let trains = (0..3).map(|_| costs(1)).collect();
     let pairs = [[0, 1], [0, 2], [1, 2]].map(|trains| Pair { trains, costs: costs(2) });
-    let mut study = Study { scale, constant: 0, trains, pairs: pairs.into() };
+    let mut study = Study::loaded(scale, trains, pairs.into());
     forbid_equal(&mut study);
     study
 }

@@ -2,7 +2,7 @@
 
 use reference::calls::{Call, Outcome, Setting};
 use reference::generator::sessions;
-use reference::model::{decode, Cost, Costs, Study, BLOCK_LENGTH, FORBIDDEN, TOP};
+use reference::model::{decode, Cost, Costs, Study, BLOCK_LENGTH, FORBIDDEN, HELD_ENTRIES, TOP};
 use seen::Seen;
 
 mod seen;
@@ -180,7 +180,7 @@ fn mate(place: usize) -> Option<usize> {
         124..316 => Some(place + 192),
         316..508 => Some(place - 192),
         508..3_580 => Some(place + 3_072),
-        3_580..BLOCK_LENGTH => Some(place - 3_072),
+        _ if HELD_ENTRIES.contains(&place) => Some(place - 3_072),
         _ => None,
     }
 }

@@ -7,6 +7,7 @@ use reference::literals::Literals;
 use reference::model::{decode, Costs, Study, TOP};
 use reference::multiples::Multiples;
 use reference::operations;
+use reference::orders::Orders;
 use reference::saves::Saves;
 use reference::stops::Stops;
 use reference::LEAST_BUFFER;
@@ -17,8 +18,8 @@ use std::mem::replace;
 #[test]
 fn the_claims_hold_by_every_plan() {
     let mut tally = Tally::default();
-    for seed in 0..800 {
-        if let Err(claim) = check_session(reference::answer, seed, 60, &mut tally) {
+    for seed in 0..1_000 {
+        if let Err(claim) = check_session(reference::answer, seed, 66, &mut tally) {
             panic!("{claim}");
         }
     }
@@ -29,8 +30,13 @@ fn the_claims_hold_by_every_plan() {
     let Stops { met, forbidden, in_steps, fewer, with_tries_left, by_the_last, same } = tally.stops;
     assert!(met > 500 && forbidden > 50 && in_steps > 50 && fewer > 200 && same > 500, "{tally:?}");
     assert!(with_tries_left > 20 && by_the_last > 100, "{tally:?}");
-    let Saves { loaded, rewritten, forbidden, given_back, of_clauses } = tally.saves;
+    let Saves { loaded, rewritten, forbidden, given_back, of_clauses, ordered } = tally.saves;
     assert!(loaded > 500 && rewritten > 300 && forbidden > 200 && given_back > 500, "{tally:?}");
+    assert!(ordered > 200, "{tally:?}");
+    let Orders { lines, changes, loads, left, studies, plans, counts, saved, spent } = tally.orders;
+    assert!(lines > 1_500 && changes > 800 && loads > 400 && left > 5_000, "{tally:?}");
+    assert!(studies[0] > 2_000 && studies[1] > 600 && saved == studies[0] + studies[1], "{tally:?}");
+    assert!(plans > 80 && counts > 4_000 && spent > 400, "{tally:?}");
     let Literals { lines, differing, paired, added_up, weightless, on_fresh, over_forbidden } = tally.clauses;
     assert!(lines > 300 && of_clauses == lines && differing > 180 && paired > 170, "{tally:?}");
     assert!(added_up > 160 && weightless > 140 && on_fresh > 50 && over_forbidden > 90, "{tally:?}");
@@ -63,7 +69,7 @@ fn saves_hold_on_every_block() {
         }
     }
     assert!(saves.loaded > 2_000 && saves.rewritten > 1_000 && saves.given_back > 100, "{saves:?}");
-    assert!(saves.forbidden > 1_000 && saves.of_clauses > 15, "{saves:?}");
+    assert!(saves.forbidden > 1_000 && saves.ordered > 400 && saves.of_clauses > 15, "{saves:?}");
 }
 
 /// Which buffers, none below the least, saves of loaded blocks come with.
@@ -248,7 +254,7 @@ fn passes_top(study: &Study) -> bool {
 #[test]
 fn the_generator_reaches_every_round() {
     let mut seen = Rounds::default();
-    sessions(600, |call, given, outcome| {
+    sessions(900, |call, given, outcome| {
         if let (b"08", Ok(Some(study))) = (&call.line[..], decode(given)) {
             seen.count(&study, outcome.reply());
         }
@@ -283,6 +289,7 @@ fn the_generator_reaches_every_answer() {
         ("08", &[1, 4, 5, 12, 16]),
         ("09", &[1, 5, 6, 7, 10, 16, 19, 20]),
         ("0A", &[1, 4, 5, 9, 16]),
+        ("0B", &[1, 4, 5, 16, 21]),
         ("00", &[2, 3]),
         ("10", &[3]),
     ] {

@@ -2,7 +2,7 @@
 
 use reference::calls::{Call, Outcome, Setting};
 use reference::generator::sessions;
-use reference::model::{decode, Costs, Study, BLOCK_LENGTH, TOP};
+use reference::model::{decode, Costs, Study, BLOCK_LENGTH, HELD_ENTRIES, TOP};
 use reference::search::{walk, Best, End};
 use reference::steps::step;
 use reference::LEAST_BUFFER;
@@ -153,7 +153,7 @@ fn all_that_shows_a_bound() {
 }
 
 /// Places of T: of choices and of pairs.
-const HELD: [Range<usize>; 2] = [316..508, 3_580..BLOCK_LENGTH];
+const HELD: [Range<usize>; 2] = [316..508, HELD_ENTRIES];
 
 /// The greatest common divisor of some costs by Euclid, 0 of none above 0.
 fn divisor(costs: impl Iterator<Item = i64>) -> i64 {

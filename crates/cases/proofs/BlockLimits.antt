@@ -1,5 +1,5 @@
 -- 16, 'block of another length or not well formed': both sides of each limit that a block has. Each block here is one that is well formed, with one number changed: places are counted as document
--- 01's 'State block' has them. The replies are what the documents say of such blocks, and are the reference implementation's too.
+-- 01's 'State block' and document 02, change 10, have them. The replies are what the documents say of such blocks, and are the reference implementation's too.
 use mathlib.Core.Path.{◌≡◌, refl}
 use mathlib.Core.Bool.{Bool, true, false, ◌&&◌}
 use mathlib.Core.List.{List, [], ◌∷◌, ◌++◌}
@@ -13,11 +13,11 @@ use Rattle.std.proofs.lemmas.Bool.{false_from_ne_true}
 use Rattle.theory.specs.Lists.{list_from}
 use Rattle.theory.proofs.Range.{both_true, not_both}
 use Rattle.tables.specs.Block.{block_length, max_trains, max_choices, max_pairs, entries_of_pair, loaded_choices_from, held_choices_from, loaded_entries_from, held_entries_from, at, pairs}
-use Rattle.tables.specs.WellFormed.{within, limits_at, pair_right, mate, is_fresh, well_formed, Study}
+use Rattle.tables.specs.WellFormed.{within, limits_at, pair_right, order_right, mate, is_fresh, well_formed, Study}
 use Rattle.tables.proofs.Study.{study_of_lem}
 use Rattle.cases.specs.Calls.{Block, held, Row, declined, Right}
 use Rattle.cases.specs.Computed.{computed}
-use Rattle.cases.specs.Studies.{j_with, j}
+use Rattle.cases.specs.Studies.{j_with, j, turned}
 use Rattle.cases.proofs.Rows.{right_by}
 use Rattle.cases.proofs.Forbidden.{d_with, d}
 
@@ -30,6 +30,10 @@ outside_at b p = not (is_fresh b) && (ltb p block_length && not (within (limits_
 -- pair k is not two trains of the block, the lower first, behind the pair before it
 unfoldable pub misplaced : List ℤ → ℕ → Bool
 misplaced b k = not (is_fresh b) && (ltb k (pairs b) && not (pair_right b k))
+
+-- the order has not each train exactly once
+unfoldable pub misordered : List ℤ → Bool
+misordered b = not (is_fresh b) && not (order_right b)
 
 -- of H and T of the choice, or of the pair of choices, with this offset, one alone is below 0
 unfoldable pub choice_alone : List ℤ → ℕ → Bool
@@ -51,6 +55,12 @@ outside_lem b p e = not_well_formed b p block_length (within (limits_at b p) (at
 pub disordered_lem : (b : List ℤ) (k : ℕ) → misplaced b k ≡ true → well_formed b ≡ false
 unfolding misplaced
 disordered_lem b k e = not_well_formed b k (pairs b) (pair_right b k) e (λ s. s.ordered k)
+
+pub not_once_lem : (b : List ℤ) → misordered b ≡ true → well_formed b ≡ false
+unfolding misordered
+not_once_lem b e =
+    let f = both_true (not (is_fresh b)) (not (order_right b)) e in
+    false_from_ne_true (well_formed b) (λ w. not_both (study_of_lem b w (not-true (is_fresh b) f.0)).once (not-true (order_right b) f.1))
 
 pub half_choice_lem : (b : List ℤ) (o : ℕ) → choice_alone b o ≡ true → well_formed b ≡ false
 unfolding choice_alone
@@ -112,6 +122,10 @@ outside b p z e = malformed (set b.numbers p z) (outside_lem (set b.numbers p z)
 unfoldable pub disordered : (b : Block) (p : ℕ) (z : ℤ) (k : ℕ) → misplaced (set b.numbers p z) k ≡ true → Row
 disordered b p z k e = malformed (set b.numbers p z) (disordered_lem (set b.numbers p z) k e)
 
+-- by which the order has not each train exactly once
+unfoldable pub not_once : (b : Block) (p : ℕ) (z : ℤ) → misordered (set b.numbers p z) ≡ true → Row
+not_once b p z e = malformed (set b.numbers p z) (not_once_lem (set b.numbers p z) e)
+
 -- by which H and T differ at offset o of the choices, and of the entries
 unfoldable pub half_choice : (b : Block) (p : ℕ) (z : ℤ) (o : ℕ) → choice_alone (set b.numbers p z) o ≡ true → Row
 half_choice b p z o e = malformed (set b.numbers p z) (half_choice_lem (set b.numbers p z) o e)
@@ -120,10 +134,12 @@ unfoldable pub half_entry : (b : Block) (p : ℕ) (z : ℤ) (o : ℕ) → entry_
 half_entry b p z o e = malformed (set b.numbers p z) (half_entry_lem (set b.numbers p z) o e)
 
 unfoldable pub table : List Row
-unfolding computed j_with j d_with d greatest four outside_at misplaced choice_alone entry_alone malformed outside disordered half_choice half_entry
+unfolding computed j_with j d_with d greatest four turned outside_at misplaced misordered choice_alone entry_alone malformed outside disordered not_once half_choice half_entry
 table =
-    -- 'another length': one more, and none; 6,651 is with the refusals
-    malformed (replicate 6653 (pos 0)) refl
+    -- 'another length': one more, one less, document 01's own, and none
+    malformed (replicate 6677 (pos 0)) refl
+    ∷ malformed (replicate 6675 (pos 0)) refl
+    ∷ malformed (replicate 6652 (pos 0)) refl
     ∷ malformed [] refl
     -- 'n is 1 to 24, s 1 to 1000, m 0 to 48, sizes 1 to 8, .. H 0 to 1,000,000, c0 and T 0 to L': the greatest of all, and each one more
     ∷ declined greatest "0400" "FF 05"
@@ -136,6 +152,7 @@ table =
     ∷ outside greatest 316 (pos 72000000001) refl
     ∷ outside greatest 508 (pos 1000001) refl
     ∷ outside greatest 3580 (pos 72000000001) refl
+    ∷ outside greatest 6675 (pos 24) refl
     -- one less than the least of n, s, c0 and a size
     ∷ outside j 0 (pos 0) refl
     ∷ outside j 1 (pos 0) refl
@@ -159,7 +176,7 @@ table =
     -- −2 of a forbidden choice
     ∷ outside d 125 (negsuc 1) refl
     ∷ outside d 317 (negsuc 1) refl
-    -- 'Unused places are 0': behind the last size, i and j; behind the last choice, in H and in T; behind the last entry of a row, and of the last pair; the last place of all
+    -- 'Unused places are 0': behind the last size, i and j; behind the last choice, in H and in T; behind the last entry of a row, and of the last pair; the last place of T; behind the last train of the order; the last place of all
     ∷ outside j 6 (pos 1) refl
     ∷ outside j 29 (pos 1) refl
     ∷ outside j 77 (pos 1) refl
@@ -169,8 +186,16 @@ table =
     ∷ outside j 3644 (pos 1) refl
     ∷ outside j 6651 (pos 1) refl
     ∷ outside j 6651 (negsuc 0) refl
+    ∷ outside j 6654 (pos 1) refl
+    ∷ outside j 6675 (pos 1) refl
+    ∷ outside j 6675 (negsuc 0) refl
+    -- document 02, change 10: 'a loaded block's order is judged likewise'. Another order than the loaded one; a train twice; a train that is not there; −1
+    ∷ declined turned "0400" "FF 05"
+    ∷ not_once j 6653 (pos 0) refl
+    ∷ not_once j 6652 (pos 2) refl
+    ∷ outside j 6652 (negsuc 0) refl
     ∷ []
 
 pub table_right : Right table
-unfolding computed j_with j d_with d greatest four malformed outside disordered half_choice half_entry table
+unfolding computed j_with j d_with d greatest four turned malformed outside disordered not_once half_choice half_entry table
 table_right = right_by table refl

@@ -3,6 +3,7 @@
 --
 -- A further table:
 -- 1. A file here with its blocks: `held` of a study written out, `refl`. A block that other tables have too goes to specs/Studies; a new part of the block is a field of `Written`. A forbidden entry is written `closed`.
+--    The order of the trains is the one that a load sets, or `held_in` gives another.
 -- 2. Its rows: `row BLOCK "LINE" "REPLY" BLOCK`, or `declined BLOCK "LINE" "FF .."`; `call` for another buffer.
 -- 3. `table_right : Right table`, `unfolding computed` and the file's own names, `table_right = right_by table refl`.
 -- A definition that is new on the answer's way is opened in specs/Computed, once. A wrong row is found by cutting the table: of a long one the checker prints no difference. Each row
@@ -22,4 +23,5 @@ pub mod Reasons
 pub mod Steps
 pub mod Limits
 pub mod BlockLimits
+pub mod Order
 pub mod PlanCosts

@@ -1,5 +1,5 @@
 -- Lines that are read, and the number under which each is declined, 0 where it is accepted: document 01's examples of 'What is declined' that the reader judges, 11 with the limits of document 02, change 3; lines that only a later rule declines, marked cases 11 and 12; FFFFFF in a
--- load, FFFFFE, FFFFFF in an add (change 5); lines of clauses (change 7); train, choice and limit (change 8).
+-- load, FFFFFE, FFFFFF in an add (change 5); lines of clauses (change 7); train, choice and limit (change 8); orders (change 10).
 use mathlib.Core.Bool.{Bool, true, ◌&&◌}
 use mathlib.Core.List.{List, [], ◌∷◌, ◌++◌}
 use Prim.Native.Nat.{ℕ}
@@ -43,7 +43,7 @@ table =
     ∷ row "ff" fresh 1
     ∷ long "" 19835 fresh 2
     ∷ row "FF" fresh 3
-    ∷ row "0B" j 3
+    ∷ row "0C" j 3
     ∷ row "10" j 3
     ∷ row "07" fresh 4
     ∷ row "0700" fresh 4
@@ -107,6 +107,16 @@ table =
     ∷ row "0A00000000000A00" j 5
     ∷ row "0A000000000000" j 0
     ∷ row "0A0101FFFFFFFF" j 0
+    ∷ row "0B0100" fresh 4
+    ∷ row "0B" j 5
+    ∷ row "0B00" j 5
+    ∷ row "0B000100" j 5
+    ∷ row "0B02" j 5
+    ∷ row "0B0000" j 21
+    ∷ row "0B0101" j 21
+    ∷ row "0B0002" j 21
+    ∷ row "0B00FF" j 21
+    ∷ row "0B0100" j 0
     ∷ []
 
 pub table_right : T (every table)

@@ -6,7 +6,7 @@ use Rattle.frames.specs.Text.{zeros}
 use Rattle.replies.specs.Wrote.{written}
 use Rattle.requests.specs.Answer.{Answer}
 use Rattle.service.specs.Answer.{min_buffer, answer}
-use Rattle.cases.specs.Written.{text, marks, Written, laid}
+use Rattle.cases.specs.Written.{text, marks, Written, laid_in, laid}
 
 -- ---- rows
 
@@ -19,6 +19,10 @@ pub record Block : Type 0 where
 -- the block of a study
 unfoldable pub held : (w : Written) → well_formed (laid w) ≡ true → Block
 held w e = record { numbers = laid w; formed = true; shown = e }
+
+-- of a study whose trains stand in this order
+unfoldable pub held_in : (order : List ℕ) (w : Written) → well_formed (laid_in order w) ≡ true → Block
+held_in order w e = record { numbers = laid_in order w; formed = true; shown = e }
 
 -- a call: how many characters its buffer has, its block and its line; and what is said of it: its reply, and the block that it leaves
 pub record Row : Type 0 where

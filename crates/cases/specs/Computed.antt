@@ -4,12 +4,13 @@ use Rattle.theory.specs.Sum.{sum}
 use Rattle.theory.specs.Range.{all, pass}
 use Rattle.theory.specs.Fold.{iter, down}
 use Rattle.theory.specs.First.{first_passing}
+use Rattle.theory.specs.Order.{each_once, rank}
 use Rattle.theory.specs.Lists.{list_from, joined}
 use Rattle.units.specs.Units.{rounded_up}
 use Rattle.refusals.specs.declared.Refusal.TheVariants.{Malformed}
 use Rattle.refusals.specs.Verdicts.{first_of}
 use Rattle.tables.specs.Block.{figure}
-use Rattle.tables.specs.WellFormed.{within, choice_used, entry_used, head_limits, shape_limits, cost_limits, limits_at, places_right, before, follows, pair_right, pairs_right, is_open, mate, mates, mated, is_zero, holds_study, well_formed, is_fresh}
+use Rattle.tables.specs.WellFormed.{within, choice_used, entry_used, head_limits, shape_limits, cost_limits, order_limits, limits_at, places_right, before, follows, pair_right, pairs_right, order_right, is_open, mate, mates, mated, is_zero, holds_study, well_formed, is_fresh}
 use Rattle.tables.specs.Numbers.{is_cost, permits, priced}
 use Rattle.tables.specs.Plans.{held_costs}
 use Rattle.bounds.specs.Steps.{euclid, gcd, step_of, rounded_to}
@@ -32,24 +33,26 @@ use Rattle.frames.specs.Fields.{field, signed, field_digits}
 use Rattle.frames.specs.Frames.{all_digits, framed}
 use Rattle.frames.specs.Runs.{run_digits}
 use Rattle.frames.specs.Text.{zeros}
+use Rattle.orders.specs.Ordered.{by_train}
 use Rattle.lines.specs.Kinds.{new_kind}
 use Rattle.lines.specs.Layout.{pair_at}
 use Rattle.lines.specs.Text.{pair_digits, pairs_digits, load_digits}
 use Rattle.lines.specs.Verdicts.{field_verdict, runs_verdict, last_verdict}
 use Rattle.kinds.specs.Load.{pair_ordered, pair_verdict, head_verdict, rest_verdict, load_verdict}
 use Rattle.kinds.specs.Clauses.{clause_verdict, clause_run_verdict, clauses_verdict}
-use Rattle.kinds.specs.Lines.{add_verdict, shift_verdict, certify_verdict, search_verdict, explain_verdict, study_line}
+use Rattle.kinds.specs.Lines.{add_verdict, shift_verdict, certify_verdict, search_verdict, explain_verdict, order_verdict, study_line}
 use Rattle.decoding.specs.Numbers.{entries_of, numbers_of}
 use Rattle.decoding.specs.Clauses.{clauses_of}
 use Rattle.reader.specs.Reading.{kind_line, line_of}
-use Rattle.search.specs.Walk.{barred, partial_total, one_try, tried_from, opened_train, walked, searched}
+use Rattle.search.specs.Walk.{barred, partial_total, one_try, tried_from, opened_train, walked}
+use Rattle.search.specs.Ordered.{walked_in, searched_in, searched}
 use Rattle.search.specs.Walk as walk
 use Rattle.search.specs.Answer.{search_answer}
-use Rattle.replies.specs.Replies.{refusal_reply, bound_reply, certify_reply, search_reply, reason_reply, fields_digits}
+use Rattle.replies.specs.Replies.{refusal_reply, bound_reply, certify_reply, search_reply, reason_reply, order_reply, fields_digits}
 use Rattle.requests.specs.Answer.{Answer, answered, requested, line_answer}
 use Rattle.service.specs.Answer.{min_buffer}
-use Rattle.cases.specs.Written.{text, marks, closed, place, places, rows, grids, laid}
-use Rattle.cases.specs.Calls.{Block, held, Row, call, row, declined, declined_long, silent, Left, left_by, said}
+use Rattle.cases.specs.Written.{text, marks, closed, place, places, rows, grids, laid_in, laid}
+use Rattle.cases.specs.Calls.{Block, held, held_in, Row, call, row, declined, declined_long, silent, Left, left_by, said}
 
 -- the answer on a block of which it is known whether it is well formed
 unfoldable pub answer_on : List ℕ → Block → List ℕ → Answer
@@ -59,9 +62,9 @@ answer_on l b buffer =
 
 -- what each call leaves. Whoever opens this name opens the definitions of rows and blocks, and, crate by crate, those on the answer's way
 unfoldable pub computed : List Row → List Left
-unfolding text zeros marks closed place places rows grids laid held call row declined declined_long silent left_by said answer_on
+unfolding text zeros marks closed place places rows grids laid_in laid held held_in call row declined declined_long silent left_by said answer_on
     rounded_up euclid gcd step_of rounded_to bound_of
-    sum all pass figure within choice_used entry_used head_limits shape_limits cost_limits limits_at places_right before follows pair_right pairs_right is_open mate mates mated is_zero is_fresh holds_study well_formed is_cost permits priced held_costs
+    sum all pass each_once figure within choice_used entry_used head_limits shape_limits cost_limits order_limits limits_at places_right before follows pair_right pairs_right order_right is_open mate mates mated is_zero is_fresh holds_study well_formed is_cost permits priced held_costs
     iter down added loaded_block joined saved_cost saved_numbers
     literals_right other_of cell_of cell_from charged_to unnamed_to named codes_below pair_codes clause_numbers costs_within sums_within clauses_outcome
     move_run kept pair_shifted shifted mate_place open_place found_of run_least run_tightened pair_tightened tightened cost_taken pair_round pair_turn train_round directed
@@ -69,9 +72,9 @@ unfolding text zeros marks closed place places rows grids laid held call row dec
     first_passing own_reaches pair_reaches out_by reason_of
     digit digit_of byte_at field signed field_digits all_digits framed list_from run_digits
     new_kind pair_at pair_digits pairs_digits load_digits entries_of numbers_of first_of field_verdict last_verdict runs_verdict pair_ordered pair_verdict head_verdict rest_verdict load_verdict
-    clause_verdict clause_run_verdict clauses_verdict clauses_of add_verdict shift_verdict certify_verdict search_verdict explain_verdict study_line kind_line line_of
-    barred walk.added partial_total one_try tried_from opened_train walked searched search_answer
-    fields_digits refusal_reply bound_reply certify_reply search_reply reason_reply
+    clause_verdict clause_run_verdict clauses_verdict clauses_of add_verdict shift_verdict certify_verdict search_verdict explain_verdict order_verdict study_line kind_line line_of
+    barred walk.added partial_total one_try tried_from opened_train walked rank by_train walked_in searched_in searched search_answer
+    fields_digits refusal_reply bound_reply certify_reply search_reply reason_reply order_reply
     requested line_answer
 computed [] = []
 computed (r ∷ rs) = left_by (answer_on r.line r.on (marks r.room)) r.room ∷ computed rs

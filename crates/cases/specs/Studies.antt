@@ -3,7 +3,7 @@ use Rattle.std.specs.Prelude.{refl, true, List, [], ◌∷◌, ℕ}
 use Prim.Native.String.{String}
 use Rattle.tables.specs.WellFormed.{fresh_block}
 use Rattle.cases.specs.Written.{Written}
-use Rattle.cases.specs.Calls.{Block, held}
+use Rattle.cases.specs.Calls.{Block, held, held_in}
 use Rattle.cases.specs.Computed.{computed}
 
 unfoldable pub fresh : Block
@@ -33,6 +33,11 @@ j_with c0 choices entries =
 unfoldable pub j : Block
 unfolding computed j_with
 j = held (j_with 0 ((2 ∷ 0 ∷ []) ∷ (0 ∷ 0 ∷ []) ∷ []) ((1 ∷ 0 ∷ []) ∷ (3 ∷ 2 ∷ []) ∷ [])) refl
+
+-- J with train 1 first
+unfoldable pub turned : Block
+unfolding computed j_with
+turned = held_in (1 ∷ 0 ∷ []) (j_with 0 ((2 ∷ 0 ∷ []) ∷ (0 ∷ 0 ∷ []) ∷ []) ((1 ∷ 0 ∷ []) ∷ (3 ∷ 2 ∷ []) ∷ [])) refl
 
 -- a study without pairs: how many parts a point has, its sizes, its choices in points; then its constant and its choices in parts
 unfoldable pub without_pairs : ℕ → List ℕ → List (List ℕ) → ℕ → List (List ℕ) → Written

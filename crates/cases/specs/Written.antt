@@ -2,6 +2,7 @@
 -- is cited, so a table says what a whole block holds and rests on none of them.
 use Rattle.std.specs.Prelude.{cond, List, [], ◌∷◌, ℕ, zero, suc, ◌*◌, eqb, ℤ, pos, negsuc, length, replicate}
 use Prim.Native.String.{String}
+use Rattle.theory.specs.Lists.{list_from}
 use Rattle.frames.specs.Text.{codes}
 
 -- all characters but spaces
@@ -56,11 +57,15 @@ grids n [] rest = places (64 * n) [] rest
 grids zero (g ∷ l) rest = rest
 grids (suc n) (g ∷ l) rest = rows 8 g (grids n l rest)
 
--- the study's block: 'place 0 n, 1 s, 2 m, 3 c0; from 4 the 24 sizes; from 28 each pair's i; from 76 each pair's j; from 124 H of choices; from 316 T likewise; from 508 H of
--- pairs; from 3580 T likewise'
-unfoldable pub laid : Written → List ℤ
-laid w =
+-- the study's block, its trains in this order: 'place 0 n, 1 s, 2 m, 3 c0; from 4 the 24 sizes; from 28 each pair's i; from 76 each pair's j; from 124 H of choices; from 316 T likewise; from 508 H of
+-- pairs; from 3580 T likewise', and document 02, change 10: 'The block gains 24 places from 6652'
+unfoldable pub laid_in : List ℕ → Written → List ℤ
+laid_in order w =
     places 4 (length w.sizes ∷ w.scale ∷ length w.firsts ∷ w.constant ∷ [])
     (places 24 w.sizes (places 48 w.firsts (places 48 w.seconds
     (rows 24 w.loaded_choices (rows 24 w.held_choices
-    (grids 48 w.loaded_entries (grids 48 w.held_entries [])))))))
+    (grids 48 w.loaded_entries (grids 48 w.held_entries (places 24 order []))))))))
+
+-- in the order that a load sets: '0 to n−1'
+unfoldable pub laid : Written → List ℤ
+laid w = laid_in (list_from 0 (length w.sizes) (λ i. i)) w

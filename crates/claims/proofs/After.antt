@@ -29,7 +29,7 @@ use Rattle.service.specs.Answer.{answer}
 use Rattle.service.specs.Calls.{Call, Exchange, exchange, last_block, blocks, exchanges}
 use Rattle.service.proofs.AnswerCases.{fixed_fit, answer_cases}
 use Rattle.service.proofs.Lists.{next_answer, exchanges_more}
-use Rattle.claims.specs.Ledger.{Ledger, by_kind, loads, fed, ledger_of, empty_ledger, has_load}
+use Rattle.claims.specs.Ledger.{Ledger, by_kind, loads, fed, ledger_of, empty_ledger, ledger_after, has_load}
 use Rattle.claims.specs.Claims.{AtCall, EachCall}
 use Rattle.claims.proofs.Keeps.{Keeps}
 use Rattle.claims.proofs.Steps.{fed_refused, Good, line_allowed, declined-call, empty_call, good_load, clauses_answer, outcome_of, good_clauses, clauses_allowed, good_line, good_call}
@@ -142,10 +142,6 @@ each_from s [] = tt
 each_from {g = g} {b = b} s (c ∷ cs) = let w = called s c.line c.buffer in (w.call, each_from {g = fed (exchange c.line (answer c.line b c.buffer).reply) g} w.state cs)
 
 -- ---- lists of calls, from the fresh block
-
--- the ledger after a list
-abbrev pub ledger_after : List Call → Ledger
-ledger_after cs = ledger_of empty_ledger (exchanges fresh_block cs)
 
 pub after_calls : (cs : List Call) → State (ledger_after cs) (last_block fresh_block cs)
 after_calls cs = after_from (inl refl) cs

@@ -3,15 +3,17 @@ use Rattle.std.specs.Prelude.{Ok, Err}
 use mathlib.Core.Path.{◌≡◌, refl, sym, ap, ◌∙◌}
 use mathlib.Core.Bool.{false}
 use mathlib.Core.List.{List}
-use Prim.Native.Nat.{ℕ, ◌<◌, ◌≤◌}
+use Prim.Native.Nat.{ℕ, ◌+◌, ◌*◌, ◌<◌, ◌≤◌}
 use lib.IntN.{ℤ}
 use lib.ListN.{length}
 use Rattle.theory.proofs.Range.{not_both}
+use Rattle.theory.proofs.Lists.{list_length}
 use Rattle.refusals.specs.Verdicts.{Verdict, settled}
-use Rattle.tables.specs.Block.{block_length, loaded_choices_from, at}
+use Rattle.tables.specs.Block.{loaded_choices_from, order_from, at}
 use Rattle.tables.specs.WellFormed.{is_open, Study}
 use Rattle.operations.specs.Add.{added, add_outcome}
 use Rattle.operations.proofs.Added.{add_same_open}
+use Rattle.operations.proofs.Order.{ordered_same_open}
 use Rattle.rewriting.specs.Judged.{kept, judged, judged_block}
 use Rattle.rewriting.specs.Leasts.{mate_place}
 use Rattle.rewriting.proofs.Shape.{Moved, Any}
@@ -23,16 +25,17 @@ use Rattle.tighten.specs.Tighten.{tightened}
 use Rattle.tighten.proofs.Ends.{tighten_rewrites}
 use Rattle.directional.specs.Directional.{directed}
 use Rattle.directional.proofs.Ends.{direct_rewrites}
-use Rattle.frames.specs.Runs.{signed_run_of}
+use Rattle.frames.specs.Fields.{field}
+use Rattle.frames.specs.Runs.{run_of, signed_run_of}
 use Rattle.lines.specs.declared.kind.Kind.{Kind}
 use Rattle.lines.specs.declared.kind.Kind.TheVariants as kind
 use Rattle.lines.specs.declared.request.Request.{Request}
-use Rattle.lines.specs.declared.request.Request.TheVariants.{Load, Add, Shift, Tighten, Round, Clauses}
-use Rattle.lines.specs.Layout.{move_width}
+use Rattle.lines.specs.declared.request.Request.TheVariants.{Load, Add, Shift, Tighten, Round, Clauses, Order}
+use Rattle.lines.specs.Layout.{count_width, move_width}
 use Rattle.reader.proofs.LineKind.{line_known}
 use Rattle.requests.specs.Answer.{operated, requested}
 use Rattle.requests.specs.Wrote.{Asks}
-use Rattle.requests.proofs.Ready.{study_ready, add_ready}
+use Rattle.requests.proofs.Ready.{study_ready, add_ready, order_ready}
 use Rattle.requests.proofs.Outcomes.{operated_leaves, requested_leaves}
 use Rattle.requests.proofs.LineCases.{line_cases}
 use Rattle.service.proofs.AnswerCases.{fixed_fit, answer_cases}
@@ -42,11 +45,11 @@ use Rattle.claims.proofs.ByKind.{by_kind_lem}
 
 -- at every place of H and T, what is forbidden in b is so in c, and what is permitted too
 abbrev Alike : List ℤ → List ℤ → Type 0
-Alike b c = (p : ℕ) → loaded_choices_from ≤ p → p < block_length → is_open (at c p) ≡ is_open (at b p)
+Alike b c = (p : ℕ) → loaded_choices_from ≤ p → p < order_from → is_open (at c p) ≡ is_open (at b p)
 
 -- a rewriting, done or declined
 judged_alike : {b c : List ℤ} {n : ℕ} → Study b → Moved Any b n c → Alike b (judged_block b c)
-judged_alike s v p l h = sym (mates_open (judged_study s v) p l h) ∙ ap is_open ((judged_loaded s v).loaded (mate_place p) (mate_loaded p l h)) ∙ mates_open s p l h
+judged_alike s v p l h = sym (mates_open (judged_study s v) p l) ∙ ap is_open ((judged_loaded s v).loaded (mate_place p) (mate_loaded p l)) ∙ mates_open s p l
 
 -- an addition, done or declined
 settled_alike : (b c : List ℤ) (v : Verdict) → Alike b c → Alike b (settled v b c)
@@ -74,6 +77,9 @@ module _ (l : List ℕ) (b : List ℤ) (other : by_kind loads false l ≡ false)
   requested_alike Tighten a = let s = study_ready a refl in operated_alike b (kept b (tightened b)) kind.Tighten (judged b (tightened b)) (judged_alike s (tighten_rewrites s))
   requested_alike Round a = let s = study_ready a refl in operated_alike b (kept b (directed b)) kind.Round (judged b (directed b)) (judged_alike s (direct_rewrites s))
   requested_alike (Clauses q) a = absurd (not_both (by_kind_lem loads false l (line_known l b (Clauses q) a.asked)) other)
+  requested_alike (Order q) a =
+      let r = order_ready a in
+      λ p m h. ordered_same_open r.study (run_of l q.trains.at count_width q.trains.count) (list_length (λ k. field l (q.trains.at + count_width * k) count_width) q.trains.count ∙ r.count) (rw (← r.count) r.once) p m
   requested_alike q a = λ p m h. ap (λ (c : List ℤ). is_open (at c p)) (requested_leaves q l b refl)
 
 pub forbidden_stays : ForbiddenStays

@@ -11,13 +11,17 @@ use lib.Dec.{eqb}
 use lib.IntN.{ℤ}
 use lib.ListN.{length}
 use borrow.Author.Tests.{eq-eqb, ne_eqb}
-use Rattle.tables.specs.Block.{trains, scale, pairs, size, first, second, loaded_choice_place, loaded_entry_place, loaded_choice, held_choice, loaded_entry}
+use Rattle.theory.specs.Lists.{nth}
+use Rattle.theory.specs.Order.{each_once}
+use Rattle.tables.specs.Block.{trains, scale, pairs, size, first, second, constant_place, loaded_choice_place, held_choice_place, loaded_entry_place, held_entry_place, order_from, figure, loaded_choice, held_choice, loaded_entry}
 use Rattle.tables.specs.Numbers.{Numbers, numbers_costs, InRange}
 use Rattle.tables.specs.WellFormed.{Study}
 use Rattle.tables.specs.Plans.{Shape, AlikeShapes, Costs, IsPlan, shape_of, loaded_costs, held_costs, loaded_total, held_total}
 use Rattle.tables.proofs.Plans.{study_shaped, first-size, second-size, alike_shaped, alike_back, alike_then, same_shape_alike, same_shape_total}
 use Rattle.tables.proofs.Study.{trains_range, pairs_range, size_range, first-below-trains, second-below-trains, same_figure, same_scale}
 use Rattle.operations.specs.Load.{loaded_block}
+use Rattle.operations.specs.Order.{ordered_block}
+use Rattle.operations.proofs.Order.{ordered_else, ordered_shape, ordered_study, ordered_same_open}
 use Rattle.operations.specs.Add.{add_open, added}
 use Rattle.operations.proofs.Loaded.{load_study, load_alike, load_trains_lem, load_scale_lem, load_pairs_lem, load_constant, load_size_lem, load_first_lem, load_second_lem, load_loaded_choice, load_loaded_entry, load_choice_parts, load_entry_parts}
 use Rattle.operations.proofs.Added.{added-closed, add_same_shape, add_same_open, add-constant-kept, add_choice_lem, add-held_choice, add_choice_kept, add-held_choice_kept, add_entry_kept, add-held_entry_kept}
@@ -122,7 +126,7 @@ judged_keeps {g} {b} {c} k v =
         let u = size_range k.study (first b j) (first-below-trains k.study j h) in
         let y = size_range k.study (second b j) (second-below-trains k.study j h) in
         let m = pairs_range k.study in
-        same_figure b (judged_block b c) (loaded_entry_place j a d) ((judged_loaded k.study v).loaded (loaded_entry_place j a d) (record { table = inr (record { low = omega arith; high = omega arith }) }))
+        same_figure b (judged_block b c) (loaded_entry_place j a d) ((judged_loaded k.study v).loaded (loaded_entry_place j a d) (record { table = inr (inl (record { low = omega arith; high = omega arith })) }))
 
 -- ---- add
 
@@ -191,3 +195,42 @@ add_keeps {g} {b} l k h q s =
         → loaded_choice (added (add_train l) (add_choice l) (add_points l) b) j c ≡ (added_ledger l g).costs.choice j c
     choice j c m n =
         rw (← k.same.shape_same.choices_open_same j c m n, ← k.same.choices_same j c m n) (raised k (add_train l) (add_choice l) (add_points l) h q j c m n).0
+
+-- ---- order
+
+-- another order of the trains leaves every place of the shape, of H and of T
+pub order_keeps : {g : Ledger} {b : List ℤ} (l : List ℕ) → Keeps g b → length l ≡ trains b → each_once (trains b) (nth l) ≡ true → Keeps g (ordered_block l b)
+unfolding loaded_costs held_costs
+order_keeps {g} {b} l k e once =
+    let sh = ordered_shape k.study l e once in
+    keeps_from k (ordered_study k.study l e once) (same_shape_alike sh k.study (ordered_same_open k.study l e once)) (same_scale sh) g refl refl k.no_constant
+    (λ i a h q. kept_at (loaded_choice_place i a) (loaded_choice_low i a h q) ∙ k.same.choices_same i a h q)
+    (λ j a d h p q. kept_at (loaded_entry_place j a d) (loaded_entry_low j a d h p q) ∙ k.same.entries_same j a d h p q)
+    (weighs_same
+    (record {
+      constant = refl;
+      choices = λ i a h q. sym (kept_at (loaded_choice_place i a) (loaded_choice_low i a h q));
+      entries = λ j a d h p q. sym (kept_at (loaded_entry_place j a d) (loaded_entry_low j a d h p q));
+    })
+    (record {
+      constant = sym (kept_at constant_place (omega arith));
+      choices = λ i a h q. sym (kept_at (held_choice_place i a) (held_choice_low i a h q));
+      entries = λ j a d h p q. sym (kept_at (held_entry_place j a d) (held_entry_low j a d h p q));
+    }) k.weighs)
+  where
+    kept_at : (p : ℕ) → p < order_from → figure (ordered_block l b) p ≡ figure b p
+    kept_at p h = same_figure b (ordered_block l b) p (ordered_else k.study l e once p h)
+
+    loaded_choice_low : (i a : ℕ) → i < trains b → a < size b i → loaded_choice_place i a < order_from
+    loaded_choice_low i a h q = omega (arith, size_range k.study i h, trains_range k.study)
+
+    held_choice_low : (i a : ℕ) → i < trains b → a < size b i → held_choice_place i a < order_from
+    held_choice_low i a h q = omega (arith, size_range k.study i h, trains_range k.study)
+
+    loaded_entry_low : (j a d : ℕ) → j < pairs b → a < size b (first b j) → d < size b (second b j) → loaded_entry_place j a d < order_from
+    loaded_entry_low j a d h p q =
+        omega (arith, size_range k.study (first b j) (first-below-trains k.study j h), size_range k.study (second b j) (second-below-trains k.study j h), pairs_range k.study)
+
+    held_entry_low : (j a d : ℕ) → j < pairs b → a < size b (first b j) → d < size b (second b j) → held_entry_place j a d < order_from
+    held_entry_low j a d h p q =
+        omega (arith, size_range k.study (first b j) (first-below-trains k.study j h), size_range k.study (second b j) (second-below-trains k.study j h), pairs_range k.study)

@@ -18,6 +18,7 @@ pub mod Rounds
 pub mod Forbidden
 pub mod Stops
 pub mod BoundSteps
+pub mod Orders
 pub mod ByComputing
 pub mod Uses
 pub mod UsesForbidden

@@ -8,12 +8,15 @@ use Prim.Native.Nat.{ℕ, ◌*◌, ◌-◌, ◌<◌, ◌≤◌, ◌^◌}
 use native.Mathlib.Omega.{arith}
 use lib.Dec.{eqb}
 use lib.IntN.{ℤ}
-use lib.ListN.{get_or}
+use lib.ListN.{length, get_or}
 use borrow.Author.Tests.{not-true, ne_eqb}
+use Rattle.theory.specs.Lists.{nth}
+use Rattle.theory.specs.Order.{each_once}
+use Rattle.theory.proofs.Order.{once_cong, order_below}
 use Rattle.theory.proofs.Range.{not_both, both_true}
 use Rattle.refusals.specs.declared.Refusal.{Refusal}
 use Rattle.refusals.specs.Refusals.{refusal_number}
-use Rattle.tables.specs.Block.{constant}
+use Rattle.tables.specs.Block.{max_trains, constant}
 use Rattle.tables.specs.Plans.{Shape, IsPlan, Open, Branches, LeastOf, choices_of}
 use Rattle.tables.proofs.Plans.{plan_cong}
 use Rattle.bounds.specs.Bounds.{bound_of}
@@ -27,15 +30,15 @@ use Rattle.reasons.specs.declared.Reason.TheVariants.{Neither, Own, Partner}
 use Rattle.reasons.specs.Reasons.{no_partner, reason_number, reason_train}
 use Rattle.lines.specs.declared.kind.Kind.{Kind}
 use Rattle.lines.specs.Kinds.{new_kind}
-use Rattle.lines.specs.Layout.{kind_of, explain_train, explain_choice, explain_limit}
+use Rattle.lines.specs.Layout.{kind_of, explain_train, explain_choice, explain_limit, order_train}
 use Rattle.search.specs.declared.answer.Found.{Found}
 use Rattle.search.specs.Answer.{is_found, found_cost, found_plan}
-use Rattle.replies.specs.Replies.{refusal_reply, figure_width, choice_width, flag, bound_reply, certify_reply, shown_cost, shown_choice, search_reply, reason_reply}
-use Rattle.replies.specs.Shown.{kind_shown, accepted, says_ended, says_ended_without, cost_shown, plan_shown, shows_plan}
-use Rattle.replies.proofs.ReadBack.{refusal_number_lem, constant-shown, bound_shown_lem, certify_flag, certify_weighted, certify_full_weight_lem, search_ended, search_without, search_cost, search_plan, reason-shown, train-shown}
+use Rattle.replies.specs.Replies.{refusal_reply, figure_width, choice_width, flag, bound_reply, certify_reply, shown_cost, shown_choice, search_reply, reason_reply, order_reply}
+use Rattle.replies.specs.Shown.{kind_shown, accepted, says_ended, says_ended_without, cost_shown, plan_shown, shows_plan, order_shown}
+use Rattle.replies.proofs.ReadBack.{refusal_number_lem, constant-shown, bound_shown_lem, certify_flag, certify_weighted, certify_full_weight_lem, search_ended, search_without, search_cost, search_plan, reason-shown, train-shown, order-shown}
 use Rattle.service.specs.Calls.{exchange}
 use Rattle.claims.specs.Ledger.{Ledger, by_kind, cost_of}
-use Rattle.claims.specs.Claims.{PlanOf, DeclinedAs, outside, malformed, scaled_cost, start_costs, BoundClaim, CeilingClaim, SearchClaim, RoundClaim, Partners, ExplainClaim, Claim, shown_kind, never_outside, AtCall}
+use Rattle.claims.specs.Claims.{PlanOf, DeclinedAs, outside, malformed, scaled_cost, start_costs, BoundClaim, CeilingClaim, SearchClaim, RoundClaim, Partners, ExplainClaim, OrderClaim, Claim, shown_kind, never_outside, AtCall}
 use Rattle.claims.proofs.ByKind.{reply_low}
 
 -- ---- a call, from its line
@@ -207,3 +210,12 @@ explain_claim g l r h costs named =
       named = λ e. rw t (of_partner {P = Partners g (explain_train l)} r named (sym n ∙ e));
       unnamed = λ e. t ∙ without_partner r (λ q. e (n ∙ q));
     }
+
+-- 8B: the trains of a list that has each train of the ledger once, as the line has them
+pub order_claim : (g : Ledger) (l : List ℕ) (trains : List ℕ) → length trains ≡ g.shape.trains → g.shape.trains ≤ max_trains → each_once g.shape.trains (nth trains) ≡ true
+    → ((d : ℕ) → d < g.shape.trains → nth trains d ≡ order_train l d) → OrderClaim g (exchange l (order_reply trains))
+order_claim g l trains e few once same =
+    record { once = once_cong g.shape.trains (order_shown (order_reply trains)) (nth trains) shown ∙ once; same = λ d h. shown d h ∙ same d h }
+  where
+    shown : (d : ℕ) → d < g.shape.trains → order_shown (order_reply trains) d ≡ nth trains d
+    shown d h = order-shown trains d (omega (arith, e)) (omega (arith, few, order_below {order = nth trains} (record { once = once }) d h))

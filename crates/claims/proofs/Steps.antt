@@ -10,6 +10,9 @@ use native.Mathlib.Decide.{ℕ_discrete, dec_lt}
 use native.Mathlib.Omega.{arith}
 use lib.IntN.{ℤ}
 use lib.ListN.{length}
+use Rattle.theory.specs.Lists.{nth}
+use Rattle.theory.proofs.Lists.{list_length, list_nth}
+use Rattle.theory.proofs.Order.{once_cong}
 use Rattle.theory.proofs.Range.{not_both}
 use Rattle.refusals.specs.declared.Refusal.{Refusal}
 use Rattle.refusals.specs.declared.Refusal.TheVariants.{CostAbove, PartsOutside, Sums, ForbiddenWeight, PairsAbove}
@@ -26,6 +29,7 @@ use Rattle.bounds.specs.Bounds.{bound_of}
 use Rattle.bounds.proofs.Plans.{bound_room}
 use Rattle.operations.specs.Add.{add_open, added, add_outcome}
 use Rattle.operations.specs.Load.{loaded_block}
+use Rattle.operations.specs.Order.{ordered_block}
 use Rattle.operations.proofs.Added.{added-closed, add-closed, cost_above, parts_above, both_within, add_study, add-within, add_same_shape, add_choice_lem, add_choice_kept, add_entry_kept}
 use Rattle.clauses.specs.Outcomes.{clauses_outcome}
 use Rattle.clauses.proofs.Block.{clauses-declined, clauses_in_range, clauses-total}
@@ -45,14 +49,14 @@ use Rattle.frames.specs.Runs.{run_of, signed_run_of}
 use Rattle.lines.specs.declared.kind.Kind.{Kind}
 use Rattle.lines.specs.declared.kind.Kind.TheVariants as kind
 use Rattle.lines.specs.declared.request.Request.{Request}
-use Rattle.lines.specs.declared.request.Request.TheVariants.{Load, Add, Shift, Tighten, Certify, Search, Save, Round, Clauses, Explain}
+use Rattle.lines.specs.declared.request.Request.TheVariants.{Load, Add, Shift, Tighten, Certify, Search, Save, Round, Clauses, Explain, Order}
 use Rattle.lines.specs.declared.request.Line.TheVariants.{Refused}
 use Rattle.lines.specs.Kinds.{new_kind, request_kind}
-use Rattle.lines.specs.Layout.{kind_of, move_width, weight_width, add_train, add_choice, add_points, certify_full_weight, search_budget, weight_field, lift_field, move_field, load_trains, load_scale, explain_train, explain_choice, explain_limit}
+use Rattle.lines.specs.Layout.{kind_of, move_width, weight_width, add_train, add_choice, add_points, certify_full_weight, search_budget, weight_field, lift_field, move_field, load_trains, load_scale, explain_train, explain_choice, explain_limit, count_width, order_field, order_train}
 use Rattle.kinds.specs.Load.{load_verdict, load_request}
 use Rattle.kinds.specs.Clauses.{clauses_verdict, clauses_request}
-use Rattle.kinds.specs.Lines.{add_request, shift_request, certify_request, search_request, explain_request}
-use Rattle.kinds.proofs.Accepted.{FineExplain, add_fine, certify_fine, explain_fine}
+use Rattle.kinds.specs.Lines.{add_request, shift_request, certify_request, search_request, explain_request, order_request}
+use Rattle.kinds.proofs.Accepted.{FineExplain, FineOrder, add_fine, certify_fine, explain_fine, order_fine}
 use Rattle.decoding.specs.Numbers.{numbers_of}
 use Rattle.decoding.specs.Clauses.{clauses_of, clause_numbers_of}
 use Rattle.decoding.proofs.LoadRange.{load_in_range}
@@ -63,9 +67,9 @@ use Rattle.reader.proofs.LineKind.{line_known}
 use Rattle.reader.proofs.LineRefused.{of_reading, line_refused}
 use Rattle.search.specs.Answer.{search_answer}
 use Rattle.search.proofs.Theorems.{answer_entries}
-use Rattle.replies.specs.Replies.{refusal_reply, reply_kind, figure_width, bound_reply, certify_reply, search_reply, reason_reply, longest_fixed}
+use Rattle.replies.specs.Replies.{refusal_reply, reply_kind, figure_width, bound_reply, certify_reply, search_reply, reason_reply, order_reply, longest_fixed}
 use Rattle.replies.specs.Shown.{kind_shown, accepted}
-use Rattle.replies.proofs.ReadBack.{bound_kind, certify_kind, search_kind, reason_kind}
+use Rattle.replies.proofs.ReadBack.{bound_kind, certify_kind, search_kind, reason_kind, order_kind}
 use Rattle.replies.proofs.Accepted.{empty_refused, refusal_refused}
 use Rattle.requests.specs.Answer.{Answer, answered, declined, operated, certified, saved, requested, line_answer}
 use Rattle.requests.proofs.LineCases.{line_cases}
@@ -78,8 +82,8 @@ use Rattle.claims.specs.Claims.{outside, malformed, BoundClaim, Claim, shown_kin
 use Rattle.claims.proofs.ByKind.{by_kind_lem, kind_accepted}
 use Rattle.claims.proofs.Found.{ceiling_holds, moved_holds, known_plan, known_low, ended_least, reason_low, partner_named}
 use Rattle.claims.proofs.Keeps.{Keeps, open_in, bound_low, total_most, entry_most, scaled_most, held-total_most}
-use Rattle.claims.proofs.Kept.{load_keeps, judged_keeps, add-scaled, add_keeps}
-use Rattle.claims.proofs.Lines.{at_refused, at_accepted, other_refusal, empty_shows, bound_claim, round_claim, ceiling_claim, Right, search_claim, explain_claim}
+use Rattle.claims.proofs.Kept.{load_keeps, judged_keeps, add-scaled, add_keeps, order_keeps}
+use Rattle.claims.proofs.Lines.{at_refused, at_accepted, other_refusal, empty_shows, bound_claim, round_claim, ceiling_claim, Right, search_claim, explain_claim, order_claim}
 use Rattle.claims.proofs.SaveClaims.{save_claim}
 use Rattle.claims.proofs.RoundClaims.{round_done, round_keeps, round_settled}
 
@@ -334,6 +338,18 @@ module _ {g : Ledger} {b : List ℤ} (k : Keeps g b) (l : List ℕ) where
       good_kind g b l kind.Explain (answered b (reason_reply r)) e (reason_kind r) k
       (explain_claim g l r (shown_low k.study i a (explain_limit l)) (reason_low k i a (explain_limit l) there.0) (partner_named k i a (explain_limit l)))
 
+  good_order : new_kind (kind_of l) ≡ Ok kind.Order → FineOrder l (trains b) → Good g b l (requested (order_request (trains b)) l b)
+  unfolding requested
+  good_order e f =
+      let n = trains b in
+      let order = run_of l order_field.at count_width n in
+      let same : (d : ℕ) → d < n → nth order d ≡ order_train l d = λ d h. list_nth (order_train l) 0 n d h in
+      let whole : length order ≡ n = list_length (order_train l) n in
+      let once = once_cong n (nth order) (order_train l) same ∙ f.once in
+      let t = k.same.shape_same.trains_same in
+      good_kind g b l kind.Order (answered (ordered_block order b) (order_reply order)) e (order_kind order) (order_keeps order k whole once)
+      (order_claim g l order (whole ∙ t) (omega (arith, t, trains_range k.study)) (rw (← t) once) (λ d h. same d (omega (arith, t))))
+
   good_clauses_line : new_kind (kind_of l) ≡ Ok kind.Clauses → clauses_verdict l ≡ Fine → Good g b l (requested (clauses_request l) l b)
   unfolding requested
   good_clauses_line e v = go (outcome_of l) refl
@@ -360,6 +376,7 @@ module _ {g : Ledger} {b : List ℤ} (k : Keeps g b) (l : List ℕ) where
   good_request Round m e = good_round e
   good_request (Clauses q) m e = as_asked (Clauses q) (clauses_request l) m.0 (good_clauses_line e m.1)
   good_request (Explain q) m e = as_asked (Explain q) (explain_request l) m.0 (good_explain e (explain_fine l b m.1))
+  good_request (Order q) m e = as_asked (Order q) (order_request (trains b)) m.0 (good_order e (order_fine l (trains b) m.1))
 
   -- 17, at once or for a reply that does not fit
   good_empty : Good g b l (answered b [])

@@ -15,7 +15,8 @@ use lib.ListN.{length, take}
 use borrow.Author.Tests.{not-true}
 use Rattle.theory.specs.Sum.{sum}
 use Rattle.theory.specs.Lists.{list_from}
-use Rattle.theory.specs.Range.{pass}
+use Rattle.theory.specs.Range.{all, pass}
+use Rattle.theory.specs.Order.{each_once}
 use Rattle.theory.proofs.Range.{not_both}
 use Rattle.refusals.specs.declared.Refusal.{Refusal}
 use Rattle.refusals.specs.declared.Refusal.TheVariants.{Fields, NoKind}
@@ -33,7 +34,7 @@ use Rattle.frames.specs.Fields.{field, signed}
 use Rattle.frames.specs.Frames.{all_digits, framed}
 use Rattle.frames.specs.Text.{codes}
 use Rattle.lines.specs.declared.kind.Kind.{Kind}
-use Rattle.lines.specs.declared.kind.Kind.TheVariants.{Load, Add, Shift, Tighten, Certify, Search, Save, Round, Clauses, Explain}
+use Rattle.lines.specs.declared.kind.Kind.TheVariants.{Load, Add, Shift, Tighten, Certify, Search, Save, Round, Clauses, Explain, Order}
 use Rattle.lines.specs.declared.request.Line.TheVariants.{Asked, Refused}
 use Rattle.lines.specs.Kinds.{new_kind}
 use Rattle.lines.specs.Layout.{pair_at}
@@ -44,7 +45,7 @@ use Rattle.decoding.specs.Clauses.{clauses_of}
 use Rattle.kinds.specs.Lines.{study_line}
 use Rattle.reader.specs.Reading.{kind_line, line_of}
 use Rattle.search.specs.declared.answer.Found.{Found}
-use Rattle.search.specs.Walk.{searched}
+use Rattle.search.specs.Ordered.{searched}
 use Rattle.search.specs.Answer.{shown, search_answer}
 use Rattle.search.specs.Stops.{Sooner, searched_on}
 use Rattle.replies.specs.Shown.{accepted, bound_shown}
@@ -348,6 +349,15 @@ module _ {b : List ℤ} where
   fourth_reason : AtLine j b (told "0A010100000000" "8A03FF") → ⊥
   unfolding told
   fourth_reason a = let h : 3 ≤ 2 = (line_claim a Explain refl).reason in omega arith
+
+  -- an order with train 0 twice, and one that the line does not give
+  train_twice : AtLine j b (told "0B0000" "8B0000") → ⊥
+  unfolding told load j all each_once
+  train_twice a = not_both ((line_claim a Order refl).once) refl
+
+  turned_order : AtLine j b (told "0B0001" "8B0100") → ⊥
+  unfolding told load j
+  turned_order a = let h : ◌≡◌ {A = ℕ} 1 0 = (line_claim a Order refl).same 0 (omega arith) in omega arith
 
 -- ---- replies to a round of the branch line
 

@@ -1,6 +1,7 @@
 -- Demand 3 of document 01, as one claim about a whole list of calls from a fresh block. Nothing else stands in this file; `demand` in proofs/Demand.antt proves it. What follows from each
 -- part of it, so that it cannot be said more weakly unseen, stands in proofs/Uses.antt and proofs/UsesForbidden.antt; the name of the law there is in brackets.
 use Rattle.std.specs.Prelude.{◌≡◌, Bool, true, false, List, [], ◌∷◌, ◌⊎◌, ℕ, ◌*◌, ◌-◌, ◌<◌, ◌≤◌, ◌^◌, eqb, ℤ, Ok}
+use Rattle.theory.specs.Order.{each_once}
 use Rattle.tables.specs.Block.{held_choice_place, held_entry_place, at, trains, scale, pairs, constant, size, first, second, loaded_choice, loaded_entry}
 use Rattle.tables.specs.WellFormed.{is_open, well_formed, fresh_block}
 use Rattle.tables.specs.Plans.{AlikeShapes, Costs, IsPlan, Open, Branches, LeastOf, PairOf, shape_of, held_total}
@@ -10,17 +11,17 @@ use Rattle.certificates.specs.Rival.{Rival, IsRival, ConstantAtMost}
 use Rattle.weights.specs.Rival.{Amounts, Leaves, LiftsAtMost}
 use Rattle.reasons.specs.Reasons.{no_partner}
 use Rattle.lines.specs.declared.kind.Kind.{Kind}
-use Rattle.lines.specs.declared.kind.Kind.TheVariants.{Load, Add, Shift, Tighten, Certify, Search, Save, Round, Clauses, Explain}
+use Rattle.lines.specs.declared.kind.Kind.TheVariants.{Load, Add, Shift, Tighten, Certify, Search, Save, Round, Clauses, Explain, Order}
 use Rattle.lines.specs.declared.request.Line.TheVariants.{Asked}
 use Rattle.lines.specs.Kinds.{kind_number, new_kind}
-use Rattle.lines.specs.Layout.{kind_of, explain_train, explain_choice, explain_limit}
+use Rattle.lines.specs.Layout.{kind_of, explain_train, explain_choice, explain_limit, order_train}
 use Rattle.clauses.specs.Clauses.{failed_weight}
 use Rattle.kinds.specs.Load.{load_request}
 use Rattle.decoding.specs.Numbers.{numbers_of}
 use Rattle.decoding.specs.Clauses.{clauses_of}
 use Rattle.reader.specs.Reading.{line_of}
 use Rattle.replies.specs.Replies.{choice_width, refusal_byte, reply_kind, flag}
-use Rattle.replies.specs.Shown.{kind_shown, accepted, number_shown, constant_shown, bound_shown, flag_shown, weighted_shown, full_weight_shown, says_ended, says_ended_without, cost_shown, plan_shown, shows_plan, reason_shown, train_shown}
+use Rattle.replies.specs.Shown.{kind_shown, accepted, number_shown, constant_shown, bound_shown, flag_shown, weighted_shown, full_weight_shown, says_ended, says_ended_without, cost_shown, plan_shown, shows_plan, reason_shown, train_shown, order_shown}
 use Rattle.service.specs.Calls.{Call, Exchange, last_block, blocks, exchanges}
 use Rattle.claims.specs.Ledger.{Ledger, numbers_ledger, by_kind, fed, ledger_of, empty_ledger, cost_of, has_load}
 
@@ -134,6 +135,13 @@ pub record ExplainClaim (g : Ledger) (e : Exchange) : Type 0 where
   -- 'the last FF unless 02' (`partner_of_01`)
   pub unnamed : (reason_shown e.reply ≡ 2 → ⊥) → train_shown e.reply ≡ no_partner
 
+-- document 02, change 10: 'The reply is 8B and the order'
+pub record OrderClaim (g : Ledger) (e : Exchange) : Type 0 where
+  -- 'each train exactly once' (`train_twice`)
+  pub once : each_once g.shape.trains (order_shown e.reply) ≡ true
+  -- in the order of the line (`turned_order`)
+  pub same : (d : ℕ) → d < g.shape.trains → order_shown e.reply d ≡ order_train e.line d
+
 -- each kind's own (`high_bound`, `high_added`, `high_shifted`, `high_tightened`)
 abbrev pub Claim : Kind → Ledger → List ℤ → Exchange → Type 0
 Claim Load g b e = BoundClaim g e
@@ -146,8 +154,9 @@ Claim Save g b e = SaveClaim g e
 Claim Round g b e = RoundClaim g e
 Claim Clauses g b e = ClausesClaim g e
 Claim Explain g b e = ExplainClaim g e
+Claim Order g b e = OrderClaim g e
 
--- 'Kinds 01 to 04: 81 to 84', 'Certify: 85', 'Search: 86'; of a round 88, of clauses 89, of a reason 8A; a save's reply, a load line, begins with 01
+-- 'Kinds 01 to 04: 81 to 84', 'Certify: 85', 'Search: 86'; of a round 88, of clauses 89, of a reason 8A, of an order 8B; a save's reply, a load line, begins with 01
 abbrev pub shown_kind : Kind → ℕ
 shown_kind Load = reply_kind Load
 shown_kind Add = reply_kind Add
@@ -159,6 +168,7 @@ shown_kind Save = kind_number Load
 shown_kind Round = reply_kind Round
 shown_kind Clauses = reply_kind Clauses
 shown_kind Explain = reply_kind Explain
+shown_kind Order = reply_kind Order
 
 pub record AtLine (g : Ledger) (b : List ℤ) (e : Exchange) : Type 0 where
   -- 'The first byte is the kind': an accepted line has one (`no_kind`)
@@ -183,6 +193,7 @@ never_outside Save = false
 never_outside Round = true
 never_outside Clauses = false
 never_outside Explain = false
+never_outside Order = false
 
 pub record AtCall (g : Ledger) (b : List ℤ) (e : Exchange) : Type 0 where
   -- 'A line is accepted if its reply isn't empty and doesn't begin with FF'

@@ -1,16 +1,17 @@
 -- Document 01, 'Lists and the ledger': what the ledger knows of a list of lines, each with its reply.
 use Rattle.refusals.specs.declared.Refusal.{Refusal}
 use Rattle.std.specs.Prelude.{Bool, true, false, cond, ◌&&◌, List, [], ◌∷◌, ℕ, ◌+◌, eqb, Result, Ok, Err}
+use Rattle.tables.specs.WellFormed.{fresh_block}
 use Rattle.tables.specs.Numbers.{Numbers, numbers, numbers_shape, numbers_costs}
 use Rattle.tables.specs.Plans.{Shape, Costs, total}
 use Rattle.lines.specs.declared.kind.Kind.{Kind}
-use Rattle.lines.specs.declared.kind.Kind.TheVariants.{Load, Add, Shift, Tighten, Certify, Search, Save, Round, Clauses, Explain}
+use Rattle.lines.specs.declared.kind.Kind.TheVariants.{Load, Add, Shift, Tighten, Certify, Search, Save, Round, Clauses, Explain, Order}
 use Rattle.lines.specs.Kinds.{new_kind}
 use Rattle.lines.specs.Layout.{kind_of, add_train, add_choice, add_points}
 use Rattle.decoding.specs.Numbers.{numbers_of}
 use Rattle.decoding.specs.Clauses.{clause_numbers_of}
 use Rattle.replies.specs.Shown.{accepted}
-use Rattle.service.specs.Calls.{Exchange}
+use Rattle.service.specs.Calls.{Call, Exchange, exchanges}
 
 -- what the ledger knows: n, sizes and pairs, and which choices and pairs of choices are forbidden; s; costs in points, with no constant, and 0 for what is forbidden
 pub record Ledger : Type 0 where
@@ -65,6 +66,7 @@ changed Save l g = g
 changed Round l g = g
 changed Clauses l g = numbers_ledger (clause_numbers_of l)
 changed Explain l g = g
+changed Order l g = g
 
 -- 'a list with an accepted load': the kinds that load; a line of clauses 'counts as an accepted load'
 abbrev pub loads : Kind → Bool
@@ -78,6 +80,7 @@ loads Save = false
 loads Round = false
 loads Clauses = true
 loads Explain = false
+loads Order = false
 
 -- ---- lists of lines with their replies
 
@@ -88,6 +91,10 @@ fed e g = cond (accepted e.reply) (by_kind (λ k. changed k e.line g) g e.line) 
 unfoldable pub ledger_of : Ledger → List Exchange → Ledger
 ledger_of g [] = g
 ledger_of g (e ∷ es) = ledger_of (fed e g) es
+
+-- the ledger of a list of calls from a fresh block
+abbrev pub ledger_after : List Call → Ledger
+ledger_after calls = ledger_of empty_ledger (exchanges fresh_block calls)
 
 -- 'A plan's cost is the sum of the ledger's costs for its choices and its pairs, in points'
 abbrev pub cost_of : Ledger → (ℕ → ℕ) → ℕ

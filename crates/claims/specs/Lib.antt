@@ -8,4 +8,5 @@ pub mod Rounds
 pub mod Forbidden
 pub mod Stops
 pub mod Steps
+pub mod Orders
 pub mod Declined

@@ -2,7 +2,7 @@
 -- proofs/Stops.antt proves it.
 use Rattle.std.specs.Prelude.{◌≡◌, true, List, ℕ}
 use Rattle.tables.specs.WellFormed.{fresh_block}
-use Rattle.search.specs.Walk.{searched}
+use Rattle.search.specs.Ordered.{searched}
 use Rattle.search.specs.Stops.{Sooner, searched_on}
 use Rattle.service.specs.Calls.{Call, last_block, exchanges}
 use Rattle.claims.specs.Ledger.{has_load}

@@ -5,14 +5,16 @@ use Prim.Native.Nat.{ℕ, ◌+◌}
 use lib.Dec.{T, eqb}
 use lib.IntN.{ℤ, pos, negsuc}
 use lib.ListN.{length, set}
+use Rattle.theory.specs.Sum.{sum}
 use Rattle.theory.specs.Range.{all, pass}
+use Rattle.theory.specs.Order.{each_once}
 use Rattle.theory.specs.Fold.{iter, down}
 use Rattle.refusals.specs.declared.Refusal.TheVariants.{PartsOutside}
 use Rattle.refusals.specs.Refusals.{refusal_number}
 use Rattle.refusals.specs.Verdicts.{verdict_number}
-use Rattle.tables.specs.Block.{max_parts, trains_place, scale_place, pairs_place, constant_place, size_place, first_place, second_place, loaded_choices_from, held_choices_from, loaded_entries_from, held_entries_from, choice_place, entry_place, figure}
+use Rattle.tables.specs.Block.{max_parts, trains_place, scale_place, pairs_place, constant_place, size_place, first_place, second_place, loaded_choices_from, held_choices_from, loaded_entries_from, held_entries_from, choice_place, entry_place, order_place, figure}
 use Rattle.tables.specs.Numbers.{forbidden_cost, permits, priced}
-use Rattle.tables.specs.WellFormed.{within, choice_used, entry_used, head_limits, shape_limits, cost_limits, limits_at, places_right, before, follows, pair_right, pairs_right, is_open, mate, mates, mated, holds_study, fresh_block}
+use Rattle.tables.specs.WellFormed.{within, choice_used, entry_used, head_limits, shape_limits, cost_limits, order_limits, limits_at, places_right, before, follows, pair_right, pairs_right, order_right, is_open, mate, mates, mated, holds_study, fresh_block}
 use Rattle.rewriting.specs.Judged.{kept}
 use Rattle.rewriting.specs.Moves.{move_run}
 use Rattle.rewriting.specs.Leasts.{mate_place, open_place, found_of, run_least, run_tightened}
@@ -50,7 +52,8 @@ row p q (v ∷ vs) b = set (set (row (p + 1) (q + 1) vs b) q (priced v 0)) p (pr
 
 trains_from : ℕ → List (List ℕ) → List ℤ → List ℤ
 trains_from i [] b = b
-trains_from i (t ∷ ts) b = put (size_place i) (length t) (row (choice_place held_choices_from i 0) (choice_place loaded_choices_from i 0) t (trains_from (i + 1) ts b))
+trains_from i (t ∷ ts) b =
+    put (size_place i) (length t) (put (order_place i) i (row (choice_place held_choices_from i 0) (choice_place loaded_choices_from i 0) t (trains_from (i + 1) ts b)))
 
 rows_from : ℕ → ℕ → List (List ℕ) → List ℤ → List ℤ
 rows_from k a [] b = b
@@ -86,7 +89,7 @@ same (x ∷ b) [] = false
 same (x ∷ b) (y ∷ c) = same_number x y && same b c
 
 pub right : List Case → Bool
-unfolding put row trains_from rows_from pairs_from held same_number same join study permits priced all pass figure iter down within choice_used entry_used head_limits shape_limits cost_limits limits_at places_right before follows pair_right pairs_right is_open mate mates mated holds_study kept move_run mate_place open_place found_of run_least run_tightened cost_taken pair_round pair_turn train_round directed
+unfolding put row trains_from rows_from pairs_from held same_number same join study permits priced sum all pass each_once figure iter down within choice_used entry_used head_limits shape_limits cost_limits order_limits limits_at places_right before follows pair_right pairs_right order_right is_open mate mates mated holds_study kept move_run mate_place open_place found_of run_least run_tightened cost_taken pair_round pair_turn train_round directed
 right [] = true
 right (c ∷ cs) = same (direct_block (held c.before)) (held c.after) && right cs
 

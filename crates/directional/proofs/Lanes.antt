@@ -33,7 +33,7 @@ Of r p = Met r p ⊎ (p ≡ r.to)
 module _ {r : PlaceRun} (f : BetweenCosts r) (d : List ℤ) where
   -- of what stands where a run's costs go, v goes into each place of the run
   pub taken_natural : Whole d → (v : ℕ) → v ≤ figure d r.to → NonNegative (move_run r (neg_ℤ (pos v)) d)
-  taken_natural w v low = record { natural = λ p h e. by p h (sym (open_same (move_loaded r (neg_ℤ (pos v)) d f) p h) ∙ e) (meet r p) (ℕ_discrete p r.to) }
+  taken_natural w v low = record { natural = λ p h e. by p h (sym (open_same (move_loaded r (neg_ℤ (pos v)) d f) p) ∙ e) (meet r p) (ℕ_discrete p r.to) }
     where
       run : RunIn d r
       run = between_costs_run d w.long f
@@ -55,14 +55,14 @@ module _ {r : PlaceRun} (f : BetweenCosts r) (d : List ℤ) where
       rw (tight_is r d)
       (record {
         natural = λ p h e.
-            tight_cases f d w.long w.non_negative (λ z. z ≡ pos (nat z)) p h (sym (open_same (tight_loaded f d) p h) ∙ e) (λ m. refl) (λ q. refl) refl;
+            tight_cases f d w.long w.non_negative (λ z. z ≡ pos (nat z)) p h (sym (open_same (tight_loaded f d) p) ∙ e) (λ m. refl) (λ q. refl) refl;
       })
 
   pub least_same : (c : List ℤ) → SameLoaded c d → ((p : ℕ) → Of r p → at d p ≡ at c p) → run_least r d ≡ run_least r c
   unfolding run_least
   least_same c e k =
       least_open_cong r.count (λ i. open_place d (run_place r i)) (λ i. open_place c (run_place r i)) (λ i. figure d (run_place r i)) (λ i. figure c (run_place r i))
-      (λ i h. open_same e (run_place r i) (f.inside i h))
+      (λ i h. open_same e (run_place r i))
       (λ i h o. same_figure c d (run_place r i) (k (run_place r i) (inl (record { turn = i; below = h; is = refl }))))
 
 -- ---- a fold of them

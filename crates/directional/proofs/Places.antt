@@ -67,7 +67,7 @@ module _ {b c : List ℤ} (s : ShapeInRange b) (u : SameLoaded b c) where
         ap is_open (u.loaded (loaded_choice_place i a) (record { table = inl (record { low = omega arith; high = omega arith }) }))
 
     pub choice_same : open_place c (held_choice_place i a) ≡ (shape_of b).choice_open i a
-    choice_same = let z = s.sizes i h in open_same u (held_choice_place i a) (omega arith) ∙ open_choice b i a h (omega arith)
+    choice_same = let z = s.sizes i h in open_same u (held_choice_place i a) ∙ open_choice b i a h (omega arith)
 
     pub choice_natural : NonNegative c → (shape_of b).choice_open i a ≡ true → at c (held_choice_place i a) ≡ pos (held_choice c i a)
     choice_natural w o = let z = s.sizes i h in w.natural (held_choice_place i a) (omega arith) (choice_same ∙ o)
@@ -84,7 +84,7 @@ module _ {b c : List ℤ} (s : ShapeInRange b) (u : SameLoaded b c) where
 
   module _ (k a y : ℕ) (h : k < pairs b) (q : a < size b (first b k)) (r : y < size b (second b k)) where
     pub entry_same : open_place c (held_entry_place k a y) ≡ (shape_of b).entry_open k a y
-    entry_same = open_same u (held_entry_place k a y) (omega (arith, s.pairs, lanes_most s Rows k h, lanes_most s Columns k h)) ∙ open_entry b k a y
+    entry_same = open_same u (held_entry_place k a y) ∙ open_entry b k a y (omega (arith, s.pairs)) (omega (arith, lanes_most s Rows k h)) (omega (arith, lanes_most s Columns k h))
 
     pub entry_natural : NonNegative c → (shape_of b).entry_open k a y ≡ true → at c (held_entry_place k a y) ≡ pos (held_entry c k a y)
     entry_natural w o = w.natural (held_entry_place k a y) (omega (arith, s.pairs, lanes_most s Rows k h, lanes_most s Columns k h)) (entry_same ∙ o)

@@ -1,19 +1,24 @@
 -- What is known of a line of each other kind once its fields were judged fine: which fields are there, their ranges, and where the line ends.
-use mathlib.Core.Path.{◌≡◌, refl}
+use mathlib.Core.Path.{◌≡◌, refl, sym}
+use mathlib.Core.Bool.{true}
 use mathlib.Core.List.{List}
 use Prim.Native.Nat.{ℕ, ◌-◌, ◌<◌, ◌≤◌}
 use native.Mathlib.Omega.{arith}
+use lib.Dec.{eqb}
 use lib.IntN.{ℤ, nat_abs}
-use Rattle.refusals.specs.Verdicts.{Fine, then}
-use Rattle.refusals.proofs.Verdicts.{then_fine}
+use borrow.Author.Tests.{eqb-true}
+use Rattle.theory.specs.Order.{each_once}
+use Rattle.refusals.specs.declared.Refusal.TheVariants.{Fields, Order}
+use Rattle.refusals.specs.Verdicts.{Fine, then, unless}
+use Rattle.refusals.proofs.Verdicts.{then_fine, unless_fine}
 use Rattle.tables.specs.Block.{max_cost, trains, size}
 use Rattle.tables.specs.LineLimits.{max_move, max_full_weight, max_budget}
 use Rattle.frames.specs.Digits.{bytes}
 use Rattle.lines.specs.declared.field.Field.{Field}
-use Rattle.lines.specs.Layout.{end_of, further, below, add_train_field, add_train, add_choice_field, add_choice, points_field, add_points, lift_field, move_field, shift_lift, shift_move, full_weight_field, certify_full_weight, weight_field, budget_field, search_budget, explain_train, explain_choice, limit_field}
-use Rattle.lines.specs.Verdicts.{field_verdict, last_verdict}
+use Rattle.lines.specs.Layout.{end_of, further, below, add_train_field, add_train, add_choice_field, add_choice, points_field, add_points, lift_field, move_field, shift_lift, shift_move, full_weight_field, certify_full_weight, weight_field, budget_field, search_budget, explain_train, explain_choice, limit_field, order_field, order_train}
+use Rattle.lines.specs.Verdicts.{field_verdict, end_verdict, last_verdict}
 use Rattle.lines.proofs.Judged.{field-within, run_within_lem, run_around, last_fine, runs_fine}
-use Rattle.kinds.specs.Lines.{choice_verdict, add_verdict, shift_verdict, certify_verdict, search_verdict, explain_verdict}
+use Rattle.kinds.specs.Lines.{choice_verdict, add_verdict, shift_verdict, certify_verdict, search_verdict, explain_verdict, order_verdict}
 
 -- ---- a train and a choice, before a last field
 
@@ -95,3 +100,16 @@ unfolding explain_verdict
 explain_fine l b e =
     let f = choice_fine l b limit_field e in
     record { train = f.train; choice = f.choice; ends = f.ends }
+
+-- ---- 0B, the order of the trains
+
+pub record FineOrder (l : List ℕ) (n : ℕ) : Type 0 where
+  pub once : each_once n (order_train l) ≡ true
+  pub ends : bytes l ≡ (further order_field n).at
+
+pub order_fine : (l : List ℕ) (n : ℕ) → order_verdict l n ≡ Fine → FineOrder l n
+unfolding order_verdict
+order_fine l n e =
+    let at = (further order_field n).at in
+    let v = then_fine (end_verdict (bytes l) at) (unless (each_once n (order_train l)) Order) e in
+    record { once = unless_fine (each_once n (order_train l)) Order v.1; ends = sym (eqb-true at (bytes l) (unless_fine (eqb at (bytes l)) Fields v.0)) }

@@ -1,9 +1,10 @@
 -- Document 01, 'Lines' and 'What is declined': of each kind, the first reason to decline a line, by its fields and by a block that holds a study, and the request that it makes.
 use Rattle.std.specs.Prelude.{cond, ◌&&◌, List, ℕ, ℤ, Result}
 use Rattle.refusals.specs.declared.Refusal.{Refusal}
-use Rattle.refusals.specs.declared.Refusal.TheVariants.{FreshBlock}
+use Rattle.refusals.specs.declared.Refusal.TheVariants.{FreshBlock, Order as order_refused}
 use Rattle.units.specs.Units.{the_points}
-use Rattle.refusals.specs.Verdicts.{Verdict, then}
+use Rattle.theory.specs.Order.{each_once}
+use Rattle.refusals.specs.Verdicts.{Verdict, then, unless}
 use Rattle.tables.specs.Block.{trains, size}
 use Rattle.tables.specs.WellFormed.{is_fresh}
 use Rattle.tables.specs.Plans.{shape_of}
@@ -13,12 +14,12 @@ use Rattle.lines.specs.declared.kind.Kind.{Kind}
 use Rattle.lines.specs.declared.kind.Kind.TheVariants as kind
 use Rattle.lines.specs.declared.field.Field.{Field}
 use Rattle.lines.specs.declared.request.Request.{Request}
-use Rattle.lines.specs.declared.request.Request.TheVariants.{Add, Shift, Tighten, Certify, Search, Save, Round, Explain}
+use Rattle.lines.specs.declared.request.Request.TheVariants.{Add, Shift, Tighten, Certify, Search, Save, Round, Explain, Order}
 use Rattle.lines.specs.declared.request.Line.{Line}
 use Rattle.lines.specs.declared.request.Line.TheVariants.{Refused}
 use Rattle.lines.specs.Kinds.{needs_study}
 use Rattle.lines.specs.Asked.{request_if, line_from}
-use Rattle.lines.specs.Layout.{kind_width, below, add_train_field, add_train, add_choice_field, add_choice, points_field, add_points, lift_field, move_field, full_weight_field, certify_full_weight, weight_field, budget_field, search_budget, explain_train, explain_choice, limit_field, explain_limit}
+use Rattle.lines.specs.Layout.{kind_width, below, add_train_field, add_train, add_choice_field, add_choice, points_field, add_points, lift_field, move_field, full_weight_field, certify_full_weight, weight_field, budget_field, search_budget, explain_train, explain_choice, limit_field, explain_limit, further, order_field, order_train}
 use Rattle.lines.specs.Verdicts.{field_verdict, end_verdict, last_verdict, runs_verdict, field_run}
 use Rattle.kinds.specs.Load.{load_verdict, load_request}
 use Rattle.kinds.specs.Clauses.{clauses_verdict, clauses_request}
@@ -66,6 +67,13 @@ explain_verdict l b = choice_verdict l b limit_field
 abbrev pub explain_request : List ℕ → Request
 explain_request l = Explain (record { train = explain_train l; choice = explain_choice l; limit = the_points (explain_limit l) })
 
+-- document 02, change 10: n train numbers, n being the block's; '21, not each train exactly once, after 5 (9 isn't used for 0B)'
+unfoldable pub order_verdict : List ℕ → ℕ → Verdict
+order_verdict l n = then (end_verdict (bytes l) (further order_field n).at) (unless (each_once n (order_train l)) order_refused)
+
+abbrev pub order_request : ℕ → Request
+order_request n = Order (record { trains = field_run order_field.at n })
+
 -- ---- by kind
 
 abbrev pub concluded : Verdict → Request → Line
@@ -83,6 +91,7 @@ kind_verdict kind.Save l b = bare_verdict l
 kind_verdict kind.Round l b = bare_verdict l
 kind_verdict kind.Clauses l b = clauses_verdict l
 kind_verdict kind.Explain l b = explain_verdict l b
+kind_verdict kind.Order l b = order_verdict l (trains b)
 
 abbrev pub kind_request : Kind → List ℕ → List ℤ → Request
 kind_request kind.Load l b = load_request l
@@ -95,6 +104,7 @@ kind_request kind.Save l b = Save
 kind_request kind.Round l b = Round
 kind_request kind.Clauses l b = clauses_request l
 kind_request kind.Explain l b = explain_request l
+kind_request kind.Order l b = order_request (trains b)
 
 abbrev pub fields_asked : Kind → List ℕ → List ℤ → Result Request Refusal
 fields_asked k l b = request_if (kind_verdict k l b) (kind_request k l b)

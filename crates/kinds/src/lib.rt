@@ -18,6 +18,7 @@ mod certify;
 pub mod clause_fields;
 mod explain_fields;
 pub mod load;
+mod order;
 mod search;
 mod shift;
 pub mod sized_load;
@@ -41,6 +42,7 @@ pub fn read_fields(frame: Frame<'_>, kind: Kind, block: Block<'_>) -> Result<Req
         (Kind::Save, Block::Held(_)) => bare::read_bare(frame, Request::Save),
         (Kind::Round, Block::Held(_)) => bare::read_bare(frame, Request::Round),
         (Kind::Explain, Block::Held(study)) => explain_fields::read_explain(frame, study),
+        (Kind::Order, Block::Held(study)) => order::read_order(frame, study),
         (_, Block::Fresh) => unreachable!(),
     }
 }

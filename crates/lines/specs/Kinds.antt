@@ -5,9 +5,9 @@ use Rattle.refusals.specs.declared.Refusal.TheVariants.{NoKind}
 use Rattle.lines.specs.declared.kind.Kind.{Kind}
 use Rattle.lines.specs.declared.kind.Kind.TheVariants as kind
 use Rattle.lines.specs.declared.request.Request.{Request}
-use Rattle.lines.specs.declared.request.Request.TheVariants.{Load, Add, Shift, Tighten, Certify, Search, Save, Round, Clauses, Explain}
+use Rattle.lines.specs.declared.request.Request.TheVariants.{Load, Add, Shift, Tighten, Certify, Search, Save, Round, Clauses, Explain, Order}
 
--- '01 load', '02 add', '03 shift', '04 tighten', '05 certify', '06 search'; document 02: 'Kind 07', a save, 'Kind 08', a directional round, 'Kind 09', a study written as clauses, 'Kind 0A', why a choice is out
+-- '01 load', '02 add', '03 shift', '04 tighten', '05 certify', '06 search'; document 02: 'Kind 07', a save, 'Kind 08', a directional round, 'Kind 09', a study written as clauses, 'Kind 0A', why a choice is out, 'Kind 0B', the order of the trains
 abbrev pub kind_number : Kind → ℕ
 kind_number kind.Load = 1
 kind_number kind.Add = 2
@@ -19,6 +19,7 @@ kind_number kind.Save = 7
 kind_number kind.Round = 8
 kind_number kind.Clauses = 9
 kind_number kind.Explain = 10
+kind_number kind.Order = 11
 
 -- this kind where the number is its own
 abbrev pub kind_if : Kind → ℕ → Result Kind Refusal → Result Kind Refusal
@@ -37,6 +38,7 @@ all_kinds =
     ∷ kind.Round
     ∷ kind.Clauses
     ∷ kind.Explain
+    ∷ kind.Order
     ∷ []
 
 -- the kind of these that has this number, or 3 where none has
@@ -48,7 +50,7 @@ kind_among (k ∷ kinds) n = kind_if k n (kind_among kinds n)
 unfoldable pub new_kind : ℕ → Result Kind Refusal
 new_kind n = kind_among all_kinds n
 
--- 4: 'kinds 02-06 on a fresh block', 07, 08 and 0A; 09 loads
+-- 4: 'kinds 02-06 on a fresh block', 07, 08, 0A and 0B; 09 loads
 abbrev pub needs_study : Kind → Bool
 needs_study kind.Load = false
 needs_study kind.Add = true
@@ -60,6 +62,7 @@ needs_study kind.Save = true
 needs_study kind.Round = true
 needs_study kind.Clauses = false
 needs_study kind.Explain = true
+needs_study kind.Order = true
 
 -- the kind of a request
 abbrev pub request_kind : Request → Kind
@@ -73,3 +76,4 @@ request_kind Save = kind.Save
 request_kind Round = kind.Round
 request_kind (Clauses q) = kind.Clauses
 request_kind (Explain q) = kind.Explain
+request_kind (Order q) = kind.Order

@@ -260,3 +260,12 @@ limit_field = field_as (end_of add_choice_field) limit_width Any Fields
 
 abbrev pub explain_limit : List ℕ → ℕ
 explain_limit l = number_in l limit_field
+
+-- ---- 0B, document 02, change 10: 'n train numbers', one byte each; they are any numbers, judged together
+
+abbrev pub order_field : Field
+order_field = field_as kind_width count_width Any Fields
+
+-- the train that is to be tried d-th, counted from 0
+abbrev pub order_train : List ℕ → ℕ → ℕ
+order_train l d = number_in l (further order_field d)

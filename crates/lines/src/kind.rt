@@ -16,6 +16,7 @@ pub enum Kind {
     Round,
     Clauses,
     Explain,
+    Order,
 }
 
 impl Kind {
@@ -23,7 +24,7 @@ impl Kind {
     pub const WIDTH: usize = 1;
 
     // Whether a line of this kind is declined on a fresh block.
-    // A rule of document 01 in one `matches!`: no derive or method tells two kinds from eight.
+    // A rule of document 01 in one `matches!`: no derive or method tells two kinds from nine.
     pub fn needs_study(self) -> bool
         ensures { result ≡ needs_study self }
     {
@@ -53,6 +54,7 @@ impl TryFrom<u64> for Kind {
             8 => Ok(Kind::Round),
             9 => Ok(Kind::Clauses),
             10 => Ok(Kind::Explain),
+            11 => Ok(Kind::Order),
             _ => Err(Refusal::NoKind),
         }
     }
@@ -77,6 +79,7 @@ impl From<Kind> for u64 {
             Kind::Round => 8,
             Kind::Clauses => 9,
             Kind::Explain => 10,
+            Kind::Order => 11,
         }
     }
 }

@@ -1,4 +1,4 @@
-// Document 01, 'Lines': a read line is either a refusal or one of ten requests, each with its own fields. Offsets, in bytes, stand for long fields.
+// Document 01, 'Lines': a read line is either a refusal or one of eleven requests, each with its own fields. Offsets, in bytes, stand for long fields.
 use crate::field::Field;
 use refusals::Refusal;
 use tables::block::Block;
@@ -101,6 +101,12 @@ impl Explain {
     pub const LIMIT_WIDTH: usize = 4;
 }
 
+// The order in which trains are tried: train numbers.
+#[derive(Clone, Copy)]
+pub struct Order {
+    pub trains: FieldRun,
+}
+
 #[derive(Clone, Copy)]
 pub enum Request {
     Load(Load),
@@ -113,6 +119,7 @@ pub enum Request {
     Round,
     Clauses(Clauses),
     Explain(Explain),
+    Order(Order),
 }
 
 // What a line asks, or why it is declined: an enum of its own and no Result, as document 01's Forms ask.

@@ -30,7 +30,7 @@ use Rattle.tables.proofs.Prices.{priced_open, priced-nat, priced_is, permitted, 
 use Rattle.tables.proofs.Counting.{choices_part, entries_part}
 use Rattle.operations.specs.Load.{loaded_block}
 use Rattle.operations.specs.Saved.{saved_cost, train_costs, row_costs, pair_costs, saved_numbers, SameLoaded, AsLoaded}
-use Rattle.operations.proofs.Loaded.{load_length, at_trains, at_scale, at_pairs, at_size, at_pair, at_choice, at_entry, no_size, no_pair, load_trains_lem, load_scale_lem, load_pairs_lem, load_constant, load_size_lem, load_first_lem, load_second_lem, load_choice_parts, load_entry_parts, load_study, lanes_of, used_choice, used_entry, region}
+use Rattle.operations.proofs.Loaded.{load_order_lem, load_length, at_trains, at_scale, at_pairs, at_size, at_pair, at_choice, at_entry, no_size, no_pair, load_trains_lem, load_scale_lem, load_pairs_lem, load_constant, load_size_lem, load_first_lem, load_second_lem, load_choice_parts, load_entry_parts, load_study, lanes_of, used_choice, used_entry, region}
 
 -- ---- one cost: the only laws that know which number in a load line stands for a place of H
 
@@ -143,6 +143,7 @@ module _ {x : Numbers} (r : InRange x) where
         cleared = load_constant r;
         choices = load_choice_parts r;
         entries = load_entry_parts r;
+        in_order = λ d h. load_order_lem r d (omega (arith, load_trains_lem r));
       }
 
 -- ---- of every study

@@ -18,7 +18,7 @@ use Rattle.tables.specs.Block.{max_trains, max_choices, max_cost, max_parts, con
 use Rattle.tables.specs.WellFormed.{cost_to, is_open, used_if, choice_used, limits_at, Study}
 use Rattle.tables.specs.Plans.{Shape, Costs, IsPlan, Open, choice_total, pair_total, total, shape_of, loaded_costs, held_costs, loaded_total, held_total}
 use Rattle.tables.proofs.Limits.{natural_open, choice_used_lem, limits_loaded_choices, limits-held_choices}
-use Rattle.tables.proofs.Study.{trains_range, size_range, choice_open_lem, SameShape, SameOpen, same_figure, same_trains, same_limits, put_same_shape, put_study, figure_at}
+use Rattle.tables.proofs.Study.{trains_range, size_range, choice_open_lem, SameShape, SameOrder, SameOpen, same_figure, same_trains, same_limits, put_same_shape, put_study, figure_at}
 use Rattle.tables.proofs.Plans.{study_shaped, open_plan, same_shape_total, choice_at_most_total}
 use Rattle.operations.specs.Add.{add_open, added, add_outcome, add_block}
 use Rattle.operations.proofs.LoadRuns.{Two, set_two_length, set_two_kept, set_two_lem, set_two}
@@ -108,6 +108,16 @@ module _ {b : List ℤ} (s : Study b) (i a p : ℕ) (h : i < trains b) (q : a < 
 
   pub add_same_shape : SameShape b (added i a p b)
   add_same_shape = by_open i a p b (SameShape b) (λ o. written_same_shape) (λ f. record { whole = refl; kept = λ o l n. refl })
+
+  written_same_order : SameOrder b (written i a p b)
+  written_same_order =
+      record {
+        order_kept = λ o l.
+            set_two_kept (loaded_choice_place i a) (held_choice_place i a) (pos (loaded_after i a p b)) (pos (held_after i a p b)) b o (λ e. omega (arith, places)) (λ e. omega (arith, places));
+      }
+
+  pub add_same_order : SameOrder b (added i a p b)
+  add_same_order = by_open i a p b (SameOrder b) (λ o. written_same_order) (λ f. record { order_kept = λ o l. refl })
 
   -- what stands at the two places, and at each other
   written_two : Two (loaded_choice_place i a) (held_choice_place i a) (pos (loaded_after i a p b)) (pos (held_after i a p b)) (written i a p b)

@@ -2,6 +2,7 @@
 pub mod Grown
 pub mod LoadTurns
 pub mod LoadRuns
+pub mod Order
 pub mod Loaded
 pub mod Added
 pub mod Examples

@@ -15,14 +15,14 @@ use Rattle.theory.specs.Fold.{iter}
 use Rattle.theory.proofs.Sum.{sum_most}
 use Rattle.theory.specs.Lists.{nth}
 use Rattle.units.specs.Units.{Sound}
-use Rattle.tables.specs.Block.{max_trains, max_choices, max_pairs, entries_of_pair, trains_place, scale_place, pairs_place, size_place, first_place, second_place, loaded_choice_place, held_choice_place, loaded_entry_place, held_entry_place}
+use Rattle.tables.specs.Block.{max_trains, max_choices, max_pairs, entries_of_pair, trains_place, scale_place, pairs_place, size_place, first_place, second_place, loaded_choice_place, held_choice_place, loaded_entry_place, held_entry_place, order_place}
 use Rattle.tables.specs.WellFormed.{fresh_block}
 use Rattle.tables.specs.declared.block.Pair.{Pair}
 use Rattle.tables.specs.Plans.{Shape}
 use Rattle.tables.specs.Counts.{rows_of, columns_of, pair_entries, choices_before, entries_before}
 use Rattle.tables.specs.Numbers.{Numbers, InRange, numbers_shape, forbidden_cost, is_cost}
 use Rattle.tables.proofs.Prices.{forbids, permitted, priced_is}
-use Rattle.operations.specs.Load.{head_loaded, sizes_loaded, pairs_loaded, run_loaded, choices_loaded, pair_loaded, entries_loaded, loaded_block, cost_loaded, SizesIn, CostsIn}
+use Rattle.operations.specs.Load.{head_loaded, sizes_loaded, pairs_loaded, run_loaded, choices_loaded, pair_loaded, entries_loaded, order_loaded, loaded_block, cost_loaded, SizesIn, CostsIn}
 
 -- ---- the turns of the loops
 
@@ -40,6 +40,9 @@ train_turn s t choices i = run_loaded s choices (choices_before t i) (loaded_cho
 
 abbrev pub row_turn : ℕ → List ℕ → ℕ → ℕ → ℕ → ℕ → List ℤ → List ℤ
 row_turn s entries start columns k a = run_loaded s entries (start + columns * a) (loaded_entry_place k a 0) (held_entry_place k a 0) columns
+
+abbrev pub order_turn : ℕ → List ℤ → List ℤ
+order_turn d b = set b (order_place d) (pos d)
 
 abbrev pub entries_turn : ℕ → Shape → List ℕ → ℕ → List ℤ → List ℤ
 entries_turn s t entries k = pair_loaded s entries (entries_before t k) (rows_of t k) (columns_of t k) k
@@ -95,12 +98,12 @@ costs_part {costs} c n start =
           (λ (h : o < n → ⊥). rw (get_or_past (take n (drop start costs)) o 0 (omega (arith, length-take n (drop start costs)))) refl);
     }
 
-pub loaded_by : (l : Numbers) {c d e f g : List ℤ}
+pub loaded_by : (l : Numbers) {c d e f g h : List ℤ}
     → c ≡ head_loaded (length l.sizes) l.scale (length l.firsts) fresh_block
     → d ≡ sizes_loaded l.sizes c → e ≡ pairs_loaded l.firsts l.seconds d → f ≡ choices_loaded l.scale (numbers_shape l) l.choices e
-    → g ≡ entries_loaded l.scale (numbers_shape l) l.entries f → g ≡ loaded_block l
+    → g ≡ entries_loaded l.scale (numbers_shape l) l.entries f → h ≡ order_loaded (length l.sizes) g → h ≡ loaded_block l
 unfolding loaded_block
-loaded_by l p q r t u = rw (u, t, r, q, p)
+loaded_by l p q r t u v = rw (v, u, t, r, q, p)
 
 -- ---- what the private functions ask
 

@@ -14,21 +14,24 @@ use lib.Seq.{get_or-set_same, get_or-set_other}
 use borrow.Author.Tests.{lt-ltb, ltb-true, ltb-false, eq-eqb, ne_eqb}
 use Rattle.theory.specs.Sum.{sum}
 use Rattle.theory.specs.Lists.{nth}
+use Rattle.theory.specs.Order.{each_once}
 use Rattle.theory.proofs.Range.{both_true}
 use Rattle.theory.proofs.Sum.{sum_cong, sum-scale}
+use Rattle.theory.proofs.Order.{once_cong, ascending_order}
 use Rattle.units.specs.Units.{scale_min, scale_max}
 use Rattle.tables.specs.declared.place_limits.Limits.{Limits}
-use Rattle.tables.specs.Block.{block_length, max_trains, max_choices, max_pairs, max_cost, max_parts, trains_place, scale_place, pairs_place, constant_place, sizes_from, firsts_from, seconds_from, size_place, first_place, second_place, loaded_choices_from, held_choices_from, loaded_entries_from, held_entries_from, entries_of_pair, loaded_choice_place, held_choice_place, loaded_entry_place, held_entry_place, at, nat, figure, trains, scale, pairs, constant, size, first, second, loaded_choice, held_choice, loaded_entry, held_entry}
-use Rattle.tables.specs.WellFormed.{from_to, cost_to, within, is_open, mate, used_if, choice_used, entry_used, head_limits, limits_at, follows, pair_right, Study, fresh_block}
+use Rattle.tables.specs.Block.{block_length, max_trains, max_choices, max_pairs, max_cost, max_parts, trains_place, scale_place, pairs_place, constant_place, sizes_from, firsts_from, seconds_from, size_place, first_place, second_place, loaded_choices_from, held_choices_from, loaded_entries_from, held_entries_from, order_from, order_place, entries_of_pair, loaded_choice_place, held_choice_place, loaded_entry_place, held_entry_place, at, nat, figure, trains, scale, pairs, constant, size, first, second, loaded_choice, held_choice, loaded_entry, held_entry, order}
+use Rattle.tables.specs.WellFormed.{from_to, cost_to, within, is_open, mate, used_if, choice_used, entry_used, head_limits, limits_at, follows, pair_right, order_right, Study, fresh_block}
 use Rattle.tables.specs.Plans.{AlikeShapes, IsPlan, choice_total, pair_total, total, shape_of, loaded_costs, held_costs, loaded_total, held_total}
 use Rattle.tables.specs.Numbers.{Numbers, InRange, numbers_shape, numbers_costs, choice_given, entry_given, permits, priced}
 use Rattle.tables.specs.Counts.{rows_of, columns_of}
 use Rattle.tables.proofs.Prices.{priced_open, priced-nat, priced_parts, priced-mates, priced-within, cost_most}
-use Rattle.tables.proofs.Limits.{within_pos, choice_used_lem, entry_used_lem, limits_head, limits-size, limits-first, limits-second, limits_loaded_choices, limits-held_choices, limits_loaded_entries, limits-held_entries}
+use Rattle.tables.proofs.Limits.{within_pos, choice_used_lem, entry_used_lem, limits_head, limits-size, limits-first, limits-second, limits_loaded_choices, limits-held_choices, limits_loaded_entries, limits-held_entries, limits_order}
 use Rattle.tables.proofs.Study.{figure_at, first-below-trains, second-below-trains}
-use Rattle.operations.specs.Load.{head_loaded, sizes_loaded, pairs_loaded, choices_loaded, loaded_block}
+use Rattle.operations.specs.Load.{head_loaded, sizes_loaded, pairs_loaded, choices_loaded, entries_loaded, loaded_block}
 use Rattle.operations.proofs.LoadTurns.{in_sizes, pair_lanes}
 use Rattle.operations.proofs.LoadRuns.{Two, Priced, two_kept, sizes_length, sizes_kept, sizes_at, pairs-length, pairs-kept, pairs_two, choices_length, choices_kept, choices_two, entries_length, entries_kept, entries_two}
+use Rattle.operations.proofs.Order.{order_length, order_else, order_there}
 
 -- ---- the head
 
@@ -69,6 +72,9 @@ shaped l = pairs_loaded l.firsts l.seconds (sized l)
 abbrev chosen : Numbers → List ℤ
 chosen l = choices_loaded l.scale (numbers_shape l) l.choices (shaped l)
 
+abbrev paired : Numbers → List ℤ
+paired l = entries_loaded l.scale (numbers_shape l) l.entries (chosen l)
+
 module _ {l : Numbers} (r : InRange l) where
   headed_length : length (headed l) ≡ block_length
   headed_length = head_length (length l.sizes) l.scale (length l.firsts) fresh_block ∙ length-replicate block_length (pos 0)
@@ -82,14 +88,21 @@ module _ {l : Numbers} (r : InRange l) where
   chosen_length : length (chosen l) ≡ block_length
   chosen_length = choices_length l.scale l.sizes l.choices (shaped l) (in_sizes r) ∙ shaped_length
 
+  paired_length : length (paired l) ≡ block_length
+  paired_length = entries_length l.scale (numbers_shape l) l.entries (chosen l) ∙ chosen_length
+
   pub load_length : length (loaded_block l) ≡ block_length
   unfolding loaded_block
-  load_length = entries_length l.scale (numbers_shape l) l.entries (chosen l) ∙ chosen_length
+  load_length = order_length (length l.sizes) (λ d. d) (paired l) ∙ paired_length
 
-  -- the entries are past the other places
-  before_entries : (p : ℕ) → p < loaded_entries_from → at (loaded_block l) p ≡ at (chosen l) p
+  -- the order is past all other places
+  before_order : (p : ℕ) → p < order_from → at (loaded_block l) p ≡ at (paired l) p
   unfolding loaded_block
-  before_entries p h = entries_kept l.scale (numbers_shape l) l.entries (chosen l) p (λ k a c i q t. (λ e. omega arith, λ e. omega arith))
+  before_order p h = order_else (length l.sizes) (λ d. d) (paired l) p (λ d q e. omega arith)
+
+  -- the entries are past the places before them
+  before_entries : (p : ℕ) → p < loaded_entries_from → at (loaded_block l) p ≡ at (chosen l) p
+  before_entries p h = before_order p (omega arith) ∙ entries_kept l.scale (numbers_shape l) l.entries (chosen l) p (λ k a c i q t. (λ e. omega arith, λ e. omega arith))
 
   -- and the choices past the shape
   before_choices : (p : ℕ) → p < loaded_choices_from → at (loaded_block l) p ≡ at (shaped l) p
@@ -154,8 +167,15 @@ module _ {l : Numbers} (r : InRange l) where
 
   pub at_entry : (k a c : ℕ) → k < length l.firsts → a < rows_of (numbers_shape l) k → c < columns_of (numbers_shape l) k
       → Priced l.scale (loaded_entry_place k a c) (held_entry_place k a c) (entry_given l k a c) (loaded_block l)
+  at_entry k a c h p q =
+      let few = r.pairs.0 in
+      let small = pair_lanes r k h in
+      two_kept (loaded_block l) (entries_two l.scale (numbers_shape l) l.entries (chosen l) chosen_length r.pairs.0 (pair_lanes r) k a c h p q)
+      (before_order (loaded_entry_place k a c) (omega arith)) (before_order (held_entry_place k a c) (omega arith))
+
+  pub at_order : (d : ℕ) → d < length l.sizes → at (loaded_block l) (order_place d) ≡ pos d
   unfolding loaded_block
-  at_entry = entries_two l.scale (numbers_shape l) l.entries (chosen l) chosen_length r.pairs.0 (pair_lanes r)
+  at_order d h = order_there (length l.sizes) (λ e. e) (paired l) d h (omega (arith, r.trains.1, paired_length))
 
   -- ---- unused places
 
@@ -179,14 +199,26 @@ module _ {l : Numbers} (r : InRange l) where
   no_choice p h q out =
       before_entries p q ∙ choices_kept l.scale l.sizes l.choices (shaped l) (in_sizes r) p out ∙ past_shape p h (omega arith)
 
-  pub no_entry : (p : ℕ) → loaded_entries_from ≤ p → p < block_length
+  -- the places past the choices' costs before the order is stored
+  past_choices : (p : ℕ) → loaded_entries_from ≤ p → p < block_length
       → ((k a c : ℕ) → k < length l.firsts → a < rows_of (numbers_shape l) k → c < columns_of (numbers_shape l) k → (p ≢ loaded_entry_place k a c) × (p ≢ held_entry_place k a c))
-      → at (loaded_block l) p ≡ pos 0
-  unfolding loaded_block
-  no_entry p h q out =
+      → at (paired l) p ≡ pos 0
+  past_choices p h q out =
       entries_kept l.scale (numbers_shape l) l.entries (chosen l) p out
       ∙ choices_kept l.scale l.sizes l.choices (shaped l) (in_sizes r) p
       (λ i a t u. let few = r.trains.1 in let small = (r.sizes i t).1 in (λ e. omega arith, λ e. omega arith)) ∙ past_shape p (omega arith) q
+
+  pub no_entry : (p : ℕ) → loaded_entries_from ≤ p → p < order_from
+      → ((k a c : ℕ) → k < length l.firsts → a < rows_of (numbers_shape l) k → c < columns_of (numbers_shape l) k → (p ≢ loaded_entry_place k a c) × (p ≢ held_entry_place k a c))
+      → at (loaded_block l) p ≡ pos 0
+  no_entry p h q out = before_order p q ∙ past_choices p h (omega arith) out
+
+  pub no_order : (d : ℕ) → length l.sizes ≤ d → d < max_trains → at (loaded_block l) (order_place d) ≡ pos 0
+  unfolding loaded_block
+  no_order d h q =
+      order_else (length l.sizes) (λ e. e) (paired l) (order_place d) (λ e t z. omega arith)
+      ∙ past_choices (order_place d) (omega arith) (omega arith)
+      (λ k a c t p w. let few = r.pairs.0 in let small = pair_lanes r k t in (λ e. omega arith, λ e. omega arith))
 
   -- ---- the figures
 
@@ -210,6 +242,9 @@ module _ {l : Numbers} (r : InRange l) where
 
   pub load_second_lem : (k : ℕ) → k < length l.firsts → second (loaded_block l) k ≡ nth l.seconds k
   load_second_lem k h = figure_at (loaded_block l) (second_place k) (nth l.seconds k) (at_pair k h).other
+
+  pub load_order_lem : (d : ℕ) → d < length l.sizes → order (loaded_block l) d ≡ d
+  load_order_lem d h = figure_at (loaded_block l) (order_place d) d (at_order d h)
 
   module _ (i a : ℕ) (h : i < length l.sizes) (q : a < nth l.sizes i) where
     pub load_loaded_choice : loaded_choice (loaded_block l) i a ≡ (numbers_costs l).choice i a
@@ -411,8 +446,22 @@ module _ {l : Numbers} (r : InRange l) where
 
   held_entries_right : (o : ℕ) → o < max_pairs * entries_of_pair → Right (loaded_block l) (held_entries_from + o)
   held_entries_right o h =
-      cost_right (loaded_block l) (held_entries_from + o) _ _ (entry_used (loaded_block l) o) max_parts (limits-held_entries (loaded_block l) o)
+      cost_right (loaded_block l) (held_entries_from + o) _ _ (entry_used (loaded_block l) o) max_parts (limits-held_entries (loaded_block l) o h)
       (λ t. ((entry_at o t).other, λ q. in_parts _ (cost_most _ (r.entry_costs _) q))) (λ f. (entry_none o h f).other)
+
+  -- ---- the order
+
+  order_right_at : (d : ℕ) → d < max_trains → Right (loaded_block l) (order_place d)
+  order_right_at d h =
+      used_right (loaded_block l) (order_place d) d (ltb d (trains (loaded_block l))) 0 (max_trains - 1) (limits_order (loaded_block l) d)
+      (λ t. (at_order r d (omega (arith, ltb-true, load_trains_lem r)), omega arith, omega arith))
+      (λ f. no_order r d (omega (arith, ltb-false, load_trains_lem r)) h)
+
+  order_once : order_right (loaded_block l) ≡ true
+  unfolding order_right
+  order_once =
+      ap (λ (n : ℕ). each_once n (order (loaded_block l))) (load_trains_lem r)
+      ∙ once_cong (length l.sizes) (order (loaded_block l)) (λ d. d) (load_order_lem r) ∙ (ascending_order (length l.sizes)).once
 
   -- ---- every place
 
@@ -425,7 +474,8 @@ module _ {l : Numbers} (r : InRange l) where
       (λ n. dite (dec_lt p held_choices_from) (λ (q : p < held_choices_from). region (Right (loaded_block l)) loaded_choices_from (max_trains * max_choices) p loaded_choices_right (omega arith) (omega arith))
       (λ n. dite (dec_lt p loaded_entries_from) (λ (q : p < loaded_entries_from). region (Right (loaded_block l)) held_choices_from (max_trains * max_choices) p held_choices_right (omega arith) (omega arith))
       (λ n. dite (dec_lt p held_entries_from) (λ (q : p < held_entries_from). region (Right (loaded_block l)) loaded_entries_from (max_pairs * entries_of_pair) p loaded_entries_right (omega arith) (omega arith))
-      (λ n. region (Right (loaded_block l)) held_entries_from (max_pairs * entries_of_pair) p held_entries_right (omega arith) (omega arith))))))))
+      (λ n. dite (dec_lt p order_from) (λ (q : p < order_from). region (Right (loaded_block l)) held_entries_from (max_pairs * entries_of_pair) p held_entries_right (omega arith) (omega arith))
+      (λ n. region (Right (loaded_block l)) order_from max_trains p order_right_at (omega arith) (omega arith)))))))))
 
   follows_at : (k : ℕ) → k < length l.firsts → follows (loaded_block l) k ≡ true
   unfolding follows
@@ -446,6 +496,7 @@ module _ {l : Numbers} (r : InRange l) where
         whole = load_length r;
         places = every_place;
         ordered = λ k h. pair_ordered_lem k (omega (arith, load_pairs_lem r));
+        once = order_once;
         choices_mated = λ o h. both_mated (choice_used (loaded_block l) o) (choice_at o) (choice_none o h) (priced-mates _ _ _);
         entries_mated = λ o h. both_mated (entry_used (loaded_block l) o) (entry_at o) (entry_none o h) (priced-mates _ _ _);
       }

@@ -1,4 +1,5 @@
 -- The rule, and nothing besides.
+pub mod Order
 pub mod Load
 pub mod Add
 pub mod Saved

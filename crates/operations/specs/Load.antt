@@ -7,6 +7,7 @@ use Rattle.tables.specs.WellFormed.{fresh_block}
 use Rattle.tables.specs.Numbers.{Numbers, list_shape, numbers_shape, is_cost, priced}
 use Rattle.tables.specs.Plans.{Shape}
 use Rattle.tables.specs.Counts.{rows_of, columns_of, choices_before, entries_before}
+use Rattle.operations.specs.Order.{order_stored}
 
 -- n, s and m
 abbrev pub head_loaded : ℕ → ℕ → ℕ → List ℤ → List ℤ
@@ -38,13 +39,18 @@ pair_loaded s entries start rows columns k b = iter rows (λ a. run_loaded s ent
 abbrev pub entries_loaded : ℕ → Shape → List ℕ → List ℤ → List ℤ
 entries_loaded s t entries b = iter t.pairs (λ k. pair_loaded s entries (entries_before t k) (rows_of t k) (columns_of t k) k) b
 
+-- document 02, change 10: 'a load, also of kind 09, sets 0 to n−1'
+abbrev pub order_loaded : ℕ → List ℤ → List ℤ
+order_loaded n b = order_stored n (λ d. d) b
+
 -- the block after the load, whatever stood there before
 unfoldable pub loaded_block : Numbers → List ℤ
 loaded_block l =
-    entries_loaded l.scale (numbers_shape l) l.entries
+    order_loaded (length l.sizes)
+    (entries_loaded l.scale (numbers_shape l) l.entries
     (choices_loaded l.scale (numbers_shape l) l.choices
     (pairs_loaded l.firsts l.seconds
-    (sizes_loaded l.sizes (head_loaded (length l.sizes) l.scale (length l.firsts) fresh_block))))
+    (sizes_loaded l.sizes (head_loaded (length l.sizes) l.scale (length l.firsts) fresh_block)))))
 
 -- ---- what the private functions of load.rt speak of, and what they ask: each a part of `InRange`
 

@@ -1,4 +1,4 @@
-// Document 01, '01 load'.
+// Document 01, '01 load', and document 02, change 10: 'a load .. sets 0 to n−1'.
 ghost use Rattle.std.specs.Prelude.{◌≡◌, ◌≢◌, true, ◌+◌, ◌<◌, ◌≤◌, IfSome, IfNone, length, map};
 ghost use Rattle.units.specs.Units.{number_of_points, Sound};
 ghost use Rattle.tables.specs.Block.{block_length, max_trains, max_pairs};
@@ -6,7 +6,7 @@ ghost use Rattle.tables.specs.WellFormed.{fresh_block};
 ghost use Rattle.tables.specs.Counts.{rows_of, columns_of, pair_entries, entries_before};
 ghost use Rattle.tables.specs.Numbers.{numbers_shape, forbidden_cost, is_cost};
 ghost use Rattle.operations.specs.Given.{numbers_given};
-ghost use Rattle.operations.specs.Load.{SizesIn, PairsIn, CostsIn, head_loaded, sizes_loaded, pairs_loaded, cost_loaded, run_loaded, choices_loaded, pair_loaded, entries_loaded, loaded_block};
+ghost use Rattle.operations.specs.Load.{SizesIn, PairsIn, CostsIn, head_loaded, sizes_loaded, pairs_loaded, cost_loaded, run_loaded, choices_loaded, pair_loaded, entries_loaded, order_loaded, loaded_block};
 
 use crate::given_study::GivenStudy;
 use tables::block::{Block, Pair, Places};
@@ -140,6 +140,16 @@ fn load_entries(b: &mut Places, given: GivenStudy<'_>)
     }
 }
 
+// Stores the order in which the trains are tried after a load.
+fn load_order(b: &mut Places, n: usize)
+    requires { n ≤ max_trains }
+    ensures { b.new ≡ order_loaded n b.old }
+{
+    for d in 0..n {
+        block::put_order(b, d, d);
+    }
+}
+
 // Loads a problem, whatever stood in the block.
 pub fn load(block: &mut Places, given: GivenStudy<'_>)
     ensures { block.new ≡ loaded_block (numbers_given given.entry.numbers.now) }
@@ -154,4 +164,5 @@ pub fn load(block: &mut Places, given: GivenStudy<'_>)
     load_pairs(block, &given.numbers.pairs);
     load_choices(block, given);
     load_entries(block, given);
+    load_order(block, given.numbers.sizes.len());
 }

@@ -9,7 +9,8 @@ use lib.IntN.{ℤ}
 use lib.ListN.{length}
 use Rattle.std.specs.Prelude.{Result, Ok, Err}
 use Rattle.refusals.specs.declared.Refusal.{Refusal}
-use Rattle.refusals.specs.declared.Refusal.TheVariants.{Characters, TooLong, Fields, Pair, Literal}
+use Rattle.refusals.specs.declared.Refusal.TheVariants.{Characters, TooLong, Fields, Pair, Literal, Order as order_refused}
+use Rattle.theory.specs.Order.{each_once}
 use Rattle.refusals.specs.Verdicts.{Verdict, Fine, Declined, then, first_of, unless}
 use Rattle.refusals.specs.Refusals.{refusal_number}
 use Rattle.tables.specs.Block.{trains, size}
@@ -20,17 +21,17 @@ use Rattle.clauses.specs.Clauses.{literals_right}
 use Rattle.frames.specs.Frames.{max_characters, framed, new_frame}
 use Rattle.frames.specs.Digits.{bytes}
 use Rattle.lines.specs.declared.kind.Kind.{Kind}
-use Rattle.lines.specs.declared.kind.Kind.TheVariants.{Load, Add, Shift, Tighten, Certify, Search, Save, Round, Clauses, Explain}
+use Rattle.lines.specs.declared.kind.Kind.TheVariants.{Load, Add, Shift, Tighten, Certify, Search, Save, Round, Clauses, Explain, Order}
 use Rattle.lines.specs.declared.field.Field.{Field}
 use Rattle.lines.specs.declared.request.Request.{Request}
 use Rattle.lines.specs.declared.request.Line.{Line}
 use Rattle.lines.specs.declared.request.Line.TheVariants.{Asked, Refused}
 use Rattle.lines.specs.Kinds.{kind_number, kind_if, all_kinds, kind_among, new_kind, needs_study}
-use Rattle.lines.specs.Layout.{kind_width, kind_of, number_in, further, trains_field, scale_field, size_field, pair_count_field, add_train, points_field, lift_field, move_field, full_weight_field, weight_field, budget_field, load_trains, load_pairs, choice_count, entry_count, pair_at, end_of, below, choice_field, entry_field, add_train_field, add_choice_field, clause_count_field, clause_count, clause_at, clause_weight_field, clause_first, clause_second, limit_field}
+use Rattle.lines.specs.Layout.{kind_width, kind_of, number_in, further, trains_field, scale_field, size_field, pair_count_field, add_train, points_field, lift_field, move_field, full_weight_field, weight_field, budget_field, load_trains, load_pairs, choice_count, entry_count, pair_at, end_of, below, choice_field, entry_field, add_train_field, add_choice_field, clause_count_field, clause_count, clause_at, clause_weight_field, clause_first, clause_second, limit_field, order_field, order_train}
 use Rattle.lines.specs.Verdicts.{obeys, field_verdict, run_verdict, end_verdict, runs_verdict, last_verdict}
 use Rattle.kinds.specs.Load.{pair_ordered, pair_verdict, head_verdict, rest_verdict, load_verdict}
 use Rattle.kinds.specs.Clauses.{clause_verdict, clause_run_verdict, clauses_verdict}
-use Rattle.kinds.specs.Lines.{choice_verdict, add_verdict, shift_verdict, certify_verdict, search_verdict, explain_verdict, concluded, kind_verdict, study_line}
+use Rattle.kinds.specs.Lines.{choice_verdict, add_verdict, shift_verdict, certify_verdict, search_verdict, explain_verdict, order_verdict, concluded, kind_verdict, study_line}
 use Rattle.reader.specs.Reading.{new_kind_line, kind_line, framed_line, line_of}
 
 -- 'Order: 17, 16, .. Then fields .. Then 10, 12 or 14': the numbers that reading a line gives are the others
@@ -140,6 +141,10 @@ module _ (l : List ℕ) where
   unfolding explain_verdict
   reads_explain b = reads_choice b limit_field refl
 
+  reads_order : (n : ℕ) → Reads (order_verdict l n)
+  unfolding order_verdict
+  reads_order n = reads_then (reads_end (further order_field n).at) (reads_unless (each_once n (order_train l)) order_refused refl)
+
 -- ---- the line
 
 -- a kind, or 3
@@ -187,6 +192,7 @@ module _ (l : List ℕ) (b : List ℤ) where
   reads_kind Round = reads_end l kind_width
   reads_kind Clauses = reads_clauses l
   reads_kind Explain = reads_explain l b
+  reads_kind Order = reads_order l (trains b)
 
   own_study : (k : Kind) → OwnLine (study_line k l b)
   unfolding study_line

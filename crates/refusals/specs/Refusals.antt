@@ -1,7 +1,7 @@
--- Document 01, 'What is declined', and document 02, changes 5 and 7: the number of each refusal.
+-- Document 01, 'What is declined', and document 02, changes 5, 7 and 10: the number of each refusal.
 use Rattle.std.specs.Prelude.{ℕ}
 use Rattle.refusals.specs.declared.Refusal.{Refusal}
-use Rattle.refusals.specs.declared.Refusal.TheVariants.{Characters, TooLong, NoKind, FreshBlock, Fields, Range, Cost, Pair, Absent, CostAbove, Move, PartsOutside, FullWeight, Sums, Budget, Malformed, ForbiddenWeight, Literal, PairsAbove}
+use Rattle.refusals.specs.declared.Refusal.TheVariants.{Characters, TooLong, NoKind, FreshBlock, Fields, Range, Cost, Pair, Absent, CostAbove, Move, PartsOutside, FullWeight, Sums, Budget, Malformed, ForbiddenWeight, Literal, PairsAbove, Order}
 
 abbrev pub refusal_number : Refusal → ℕ
 refusal_number Characters = 1
@@ -23,3 +23,4 @@ refusal_number Malformed = 16
 refusal_number ForbiddenWeight = 18
 refusal_number Literal = 19
 refusal_number PairsAbove = 20
+refusal_number Order = 21

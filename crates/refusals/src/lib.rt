@@ -1,4 +1,4 @@
-// Document 01, 'What is declined', and document 02, changes 5 and 7: the reasons, with their numbers, and verdicts on a line, a field or an operation.
+// Document 01, 'What is declined', and document 02, changes 5, 7 and 10: the reasons, with their numbers, and verdicts on a line, a field or an operation.
 #![tactic(auto)]
 
 #[derive(Clone, Copy, PartialEq, Eq)]
@@ -40,6 +40,8 @@ pub enum Refusal {
     Literal,
     // More pairs than a block has.
     PairsAbove,
+    // Not each train exactly once.
+    Order,
 }
 
 // Document 01's number of a refusal.
@@ -70,6 +72,7 @@ impl From<Refusal> for u8 {
             Refusal::ForbiddenWeight => 18,
             Refusal::Literal => 19,
             Refusal::PairsAbove => 20,
+            Refusal::Order => 21,
         }
     }
 }

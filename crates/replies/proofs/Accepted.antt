@@ -14,12 +14,12 @@ use Rattle.frames.specs.Digits.{digit, byte_at}
 use Rattle.frames.specs.Fields.{field}
 use Rattle.reasons.specs.declared.Reason.{Reason}
 use Rattle.lines.specs.declared.kind.Kind.{Kind}
-use Rattle.lines.specs.declared.kind.Kind.TheVariants.{Certify, Search, Explain}
+use Rattle.lines.specs.declared.kind.Kind.TheVariants.{Certify, Search, Explain, Order}
 use Rattle.lines.proofs.KindNumbers.{number_low}
 use Rattle.search.specs.declared.answer.Found.{Found}
-use Rattle.replies.specs.Replies.{refusal_byte, refusal_reply, bound_reply, certify_reply, search_reply, reason_reply}
+use Rattle.replies.specs.Replies.{refusal_byte, refusal_reply, bound_reply, certify_reply, search_reply, reason_reply, order_reply}
 use Rattle.replies.specs.Shown.{kind_shown, accepted}
-use Rattle.replies.proofs.ReadBack.{refusal_kind, bound_kind, certify_kind, search_kind, reason_kind}
+use Rattle.replies.proofs.ReadBack.{refusal_kind, bound_kind, certify_kind, search_kind, reason_kind, order_kind}
 
 -- an empty reply shows no byte
 pub accepted_as : (reply : List ℕ) → kind_shown reply < refusal_byte → accepted reply ≡ true
@@ -46,3 +46,6 @@ search_accepted n f = accepted_as (search_reply n f) (omega (arith, search_kind 
 
 pub reason_accepted : (r : Reason) → accepted (reason_reply r) ≡ true
 reason_accepted r = accepted_as (reason_reply r) (omega (arith, reason_kind r, number_low Explain))
+
+pub order_accepted : (trains : List ℕ) → accepted (order_reply trains) ≡ true
+order_accepted trains = accepted_as (order_reply trains) (omega (arith, order_kind trains, number_low Order))

@@ -5,13 +5,14 @@ use Prim.Native.Nat.{ℕ, ◌+◌, ◌*◌}
 use native.Mathlib.Omega.{arith}
 use lib.IntN.{ℤ}
 use lib.ListN.{length}
+use Rattle.theory.specs.Lists.{nth}
 use Rattle.refusals.specs.declared.Refusal.{Refusal}
 use Rattle.certificates.specs.declared.certify.Ceiling.{Ceiling}
 use Rattle.reasons.specs.declared.Reason.{Reason}
 use Rattle.frames.proofs.RunDigits.{run_length}
 use Rattle.lines.specs.declared.kind.Kind.{Kind}
 use Rattle.search.specs.declared.answer.Found.{Found}
-use Rattle.replies.specs.Replies.{choice_width, refusal_widths, refusal_reply, bound_widths, bound_reply, certify_widths, certify_reply, search_widths, shown_choice, search_reply, refusal_numbers, bound_numbers, certify_numbers, search_numbers, plan_digits, reason_widths, reason_numbers, reason_reply}
+use Rattle.replies.specs.Replies.{choice_width, refusal_widths, refusal_reply, bound_widths, bound_reply, certify_widths, certify_reply, search_widths, shown_choice, search_reply, refusal_numbers, bound_numbers, certify_numbers, search_numbers, plan_digits, reason_widths, reason_numbers, reason_reply, order_widths, order_numbers, train_width, trains_digits, order_reply}
 use Rattle.replies.proofs.ReplyFields.{fields_length}
 
 -- a refusal has four characters
@@ -34,3 +35,7 @@ search_length n f = omega (arith, fields_length search_widths (search_numbers f)
 pub reason_length : (r : Reason) → length (reason_reply r) ≡ 6
 unfolding reason_reply
 reason_length r = fields_length reason_widths (reason_numbers r) [] refl
+
+pub order_length : (trains : List ℕ) → length (order_reply trains) ≡ 2 + 2 * length trains
+unfolding order_reply
+order_length trains = omega (arith, fields_length order_widths order_numbers (trains_digits trains) refl, run_length train_width (length trains) (nth trains) [])

@@ -6,6 +6,8 @@ use Prim.Native.Nat.{ℕ, ◌<◌, ◌^◌}
 use native.Mathlib.Omega.{arith}
 use lib.Dec.{eqb}
 use lib.IntN.{ℤ}
+use lib.ListN.{length}
+use Rattle.theory.specs.Lists.{nth}
 use Rattle.refusals.specs.declared.Refusal.{Refusal}
 use Rattle.refusals.specs.declared.Refusal.TheVariants.{Characters}
 use Rattle.refusals.specs.Refusals.{refusal_number}
@@ -16,12 +18,12 @@ use Rattle.reasons.specs.declared.Reason.{Reason}
 use Rattle.reasons.specs.declared.Reason.TheVariants.{Neither, Own, Partner}
 use Rattle.reasons.specs.Reasons.{reason_number, reason_train}
 use Rattle.lines.specs.declared.kind.Kind.{Kind}
-use Rattle.lines.specs.declared.kind.Kind.TheVariants.{Certify, Search, Explain}
+use Rattle.lines.specs.declared.kind.Kind.TheVariants.{Certify, Search, Explain, Order}
 use Rattle.lines.proofs.KindNumbers.{number_low}
 use Rattle.search.specs.declared.answer.Found.{Found}
 use Rattle.search.specs.Answer.{is_found}
-use Rattle.replies.specs.Replies.{figure_width, choice_width, refusal_widths, refusal_byte, refusal_reply, reply_kind, bound_widths, bound_reply, certify_widths, flag, certify_reply, search_widths, ending, shown_cost, shown_choice, search_reply, refusal_numbers, bound_numbers, certify_numbers, search_numbers, plan_digits, reason_widths, reason_numbers, reason_reply}
-use Rattle.replies.specs.Shown.{kind_shown, number_shown, constant_shown, bound_shown, flag_shown, weighted_shown, full_weight_shown, ending_shown, says_ended, says_ended_without, cost_shown, plan_shown, reason_shown, train_shown}
+use Rattle.replies.specs.Replies.{figure_width, choice_width, refusal_widths, refusal_byte, refusal_reply, reply_kind, bound_widths, bound_reply, certify_widths, flag, certify_reply, search_widths, ending, shown_cost, shown_choice, search_reply, refusal_numbers, bound_numbers, certify_numbers, search_numbers, plan_digits, reason_widths, reason_numbers, reason_reply, order_widths, order_numbers, train_width, trains_digits, order_reply}
+use Rattle.replies.specs.Shown.{kind_shown, number_shown, constant_shown, bound_shown, flag_shown, weighted_shown, full_weight_shown, ending_shown, says_ended, says_ended_without, cost_shown, plan_shown, reason_shown, train_shown, order_shown}
 use Rattle.replies.proofs.ReplyFields.{fields_shown, run_shown}
 
 flag_low : (t : Bool) → flag t < 256
@@ -139,3 +141,14 @@ module _ (r : Reason) where
   pub train-shown : reason_train r < 256 → train_shown (reason_reply r) ≡ reason_train r
   unfolding reason_reply
   train-shown h = fields_shown reason_widths (reason_numbers r) [] refl 2 (omega arith) h
+
+-- ---- 8B
+
+module _ (trains : List ℕ) where
+  pub order_kind : kind_shown (order_reply trains) ≡ reply_kind Order
+  unfolding order_reply
+  order_kind = fields_shown order_widths order_numbers (trains_digits trains) refl 0 (omega arith) (omega arith)
+
+  pub order-shown : (d : ℕ) → d < length trains → nth trains d < 256 ^ train_width → order_shown (order_reply trains) d ≡ nth trains d
+  unfolding order_reply
+  order-shown d h q = run_shown order_widths order_numbers train_width (length trains) (nth trains) [] refl d h q

@@ -1,5 +1,6 @@
 -- Document 01, 'Replies': the characters of each reply, 'digits as lines are, two characters a byte'. A reply is numbers in fields, one after the other; how many bytes each field has stands once.
-use Rattle.std.specs.Prelude.{Bool, cond, List, [], ◌∷◌, ℕ, ◌+◌, ◌*◌, ◌-◌, ◌^◌, ℤ, get_or}
+use Rattle.std.specs.Prelude.{Bool, cond, List, [], ◌∷◌, ℕ, ◌+◌, ◌*◌, ◌-◌, ◌^◌, ℤ, get_or, length}
+use Rattle.theory.specs.Lists.{nth}
 use Rattle.refusals.specs.declared.Refusal.{Refusal}
 use Rattle.refusals.specs.Refusals.{refusal_number}
 use Rattle.tables.specs.Block.{constant, max_trains}
@@ -10,7 +11,7 @@ use Rattle.reasons.specs.Reasons.{reason_number, reason_train}
 use Rattle.frames.specs.Fields.{field_digits}
 use Rattle.frames.specs.Runs.{run_digits}
 use Rattle.lines.specs.declared.kind.Kind.{Kind}
-use Rattle.lines.specs.declared.kind.Kind.TheVariants.{Certify, Search, Explain}
+use Rattle.lines.specs.declared.kind.Kind.TheVariants.{Certify, Search, Explain, Order}
 use Rattle.lines.specs.Kinds.{kind_number}
 use Rattle.search.specs.declared.answer.Found.{Found}
 use Rattle.search.specs.Answer.{is_found, found_cost, found_plan}
@@ -50,7 +51,7 @@ refusal_numbers r = refusal_byte ∷ refusal_number r ∷ []
 unfoldable pub refusal_reply : Refusal → List ℕ
 refusal_reply r = fields_digits refusal_widths (refusal_numbers r) []
 
--- ---- 'Kinds 01 to 04: 81 to 84', 'Certify: 85', 'Search: 86', and 88 for 08, 89 for 09, 8A for 0A
+-- ---- 'Kinds 01 to 04: 81 to 84', 'Certify: 85', 'Search: 86', and 88 for 08, 89 for 09, 8A for 0A, 8B for 0B
 
 -- the first byte of the reply to a line of this first byte
 abbrev pub reply_byte : ℕ → ℕ
@@ -121,6 +122,24 @@ reason_numbers r = reply_kind Explain ∷ reason_number r ∷ reason_train r ∷
 
 unfoldable pub reason_reply : Reason → List ℕ
 reason_reply r = fields_digits reason_widths (reason_numbers r) []
+
+-- ---- document 02, change 10: 'The reply is 8B and the order', one byte a train
+
+-- of the field before the trains' bytes
+abbrev pub order_widths : List ℕ
+order_widths = 1 ∷ []
+
+abbrev pub order_numbers : List ℕ
+order_numbers = reply_kind Order ∷ []
+
+abbrev pub train_width : ℕ
+train_width = 1
+
+abbrev pub trains_digits : List ℕ → List ℕ
+trains_digits trains = run_digits train_width (length trains) (nth trains) []
+
+unfoldable pub order_reply : List ℕ → List ℕ
+order_reply trains = fields_digits order_widths order_numbers (trains_digits trains)
 
 -- ---- how long replies are
 

@@ -2,7 +2,7 @@
 ghost use Rattle.std.specs.Prelude.{◌≡◌, ◌++◌, ◌+◌, ◌*◌, ◌<◌, ◌≤◌, length, take};
 ghost use Rattle.tables.specs.Block.{max_trains};
 ghost use Rattle.reasons.specs.Reasons.{reason_number, reason_train};
-ghost use Rattle.replies.specs.Replies.{choice_width, longest_fixed, refusal_reply, reply_kind, bound_reply, certify_reply, ending, shown_cost, shown_choice, plan_digits, search_reply, reason_reply};
+ghost use Rattle.replies.specs.Replies.{choice_width, train_width, longest_fixed, refusal_reply, reply_kind, bound_reply, certify_reply, ending, shown_cost, shown_choice, plan_digits, search_reply, reason_reply, trains_digits, order_reply};
 ghost use Rattle.replies.specs.Wrote.{Wrote};
 
 use crate::write;
@@ -18,6 +18,8 @@ use tables::held_study::HeldStudy;
 const FIGURE_WIDTH: usize = 6;
 
 const CHOICE_WIDTH: usize = 1;
+// How many bytes the number of a train has in a reply.
+const TRAIN_WIDTH: usize = 1;
 // The first byte of the reply to a declined line.
 const REFUSAL_BYTE: u64 = 255;
 // What is added to a kind's number, in the first byte of its reply.
@@ -163,4 +165,26 @@ pub fn write_reason(reply: &mut [u8], r: Reason) -> usize
         (1, reason_train(r)),
     ];
     write::put_fields(reply, &fields)
+}
+
+// Writes train numbers, from character `from` on.
+fn write_trains(reply: &mut [u8], from: usize, trains: &[u64]) -> usize
+    requires { from + 2 * (train_width * length trains.now) ≤ length reply.old }
+    ensures { Wrote reply.old (take from reply.old ++ trains_digits trains.now) reply.new result }
+{
+    let mut at = from;
+    for d in 0..trains.len() {
+        at = write::put_field(reply, at, TRAIN_WIDTH, trains[d]);
+    }
+    at
+}
+
+// Writes an order of trains.
+#[tactic(auto, unfolding(crate::specs::Replies::order_reply))]
+pub fn write_order(reply: &mut [u8], trains: &[u64]) -> usize
+    requires { (longest_fixed ≤ length reply.old) × (length trains.now ≤ max_trains) }
+    ensures { Wrote reply.old (order_reply trains.now) reply.new result }
+{
+    let end = write::put_fields(reply, &[(1, reply_kind(Kind::Order))]);
+    write_trains(reply, end, trains)
 }

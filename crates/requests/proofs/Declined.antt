@@ -27,8 +27,8 @@ use Rattle.frames.specs.Runs.{run_of, signed_run_of}
 use Rattle.lines.specs.declared.kind.Kind.{Kind}
 use Rattle.lines.specs.declared.kind.Kind.TheVariants as kind
 use Rattle.lines.specs.declared.request.Request.{Request}
-use Rattle.lines.specs.declared.request.Request.TheVariants.{Load, Add, Shift, Tighten, Certify, Search, Save, Round, Clauses, Explain}
-use Rattle.lines.specs.Layout.{move_width, weight_width}
+use Rattle.lines.specs.declared.request.Request.TheVariants.{Load, Add, Shift, Tighten, Certify, Search, Save, Round, Clauses, Explain, Order}
+use Rattle.lines.specs.Layout.{count_width, move_width, weight_width}
 use Rattle.lines.specs.Text.{load_digits}
 use Rattle.decoding.specs.Numbers.{numbers_of}
 use Rattle.decoding.specs.Clauses.{clauses_of, clause_numbers_of}
@@ -37,7 +37,7 @@ use Rattle.reasons.specs.Reasons.{reason_at}
 use Rattle.search.specs.Answer.{search_answer}
 use Rattle.replies.specs.Replies.{longest_fixed}
 use Rattle.replies.specs.Shown.{accepted}
-use Rattle.replies.proofs.Accepted.{accepted_as, bound_accepted, certify_accepted, search_accepted, reason_accepted}
+use Rattle.replies.proofs.Accepted.{accepted_as, bound_accepted, certify_accepted, search_accepted, reason_accepted, order_accepted}
 use Rattle.requests.specs.Answer.{Answer, answered, declined, operated, certified, requested, line_answer}
 use Rattle.requests.specs.Declined.{Declines}
 use Rattle.requests.proofs.LineCases.{line_cases}
@@ -86,6 +86,7 @@ module _ (l : List ℕ) (b : List ℤ) where
   either_requested Round = either_operated kind.Round (direct_outcome b) b (kept b (directed b))
   either_requested (Clauses q) = either_operated kind.Clauses (clauses_outcome q.trains q.scale (clauses_of l)) b (loaded_block (clause_numbers_of l))
   either_requested (Explain q) = inl (reason_accepted (reason_at b q.train q.choice q.limit.0))
+  either_requested (Order q) = inl (order_accepted (run_of l q.trains.at count_width q.trains.count))
 
   -- a line, where there is room for every fixed reply
   pub either_line : (room : ℕ) → longest_fixed ≤ room → well_formed b ≡ true → Either b (line_answer l b room)

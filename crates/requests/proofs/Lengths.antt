@@ -4,12 +4,13 @@ use Rattle.refusals.specs.declared.Refusal.{Refusal}
 use Rattle.certificates.specs.declared.certify.Ceiling.{Ceiling}
 use mathlib.Core.Path.{◌≡◌, refl}
 use mathlib.Core.Bool.{true}
-use Prim.Native.Nat.{ℕ, ◌<◌, ◌≤◌}
+use Prim.Native.Nat.{ℕ, ◌+◌, ◌*◌, ◌<◌, ◌≤◌}
 use mathlib.Core.List.{List}
 use native.Mathlib.Omega.{arith}
 use lib.IntN.{ℤ}
 use lib.ListN.{length}
 use Rattle.theory.proofs.Range.{not_both}
+use Rattle.theory.proofs.Lists.{list_length}
 use Rattle.refusals.specs.Verdicts.{Verdict}
 use Rattle.tables.specs.Block.{trains}
 use Rattle.tables.specs.WellFormed.{Study}
@@ -21,23 +22,24 @@ use Rattle.shift.specs.Shift.{shift_outcome}
 use Rattle.tighten.specs.Tighten.{tighten_outcome}
 use Rattle.directional.specs.Directional.{direct_outcome}
 use Rattle.certificates.specs.Certify.{weights_of, certificate}
+use Rattle.frames.specs.Fields.{field}
 use Rattle.frames.specs.Runs.{run_of, signed_run_of}
 use Rattle.lines.specs.declared.kind.Kind.{Kind}
 use Rattle.lines.specs.declared.kind.Kind.TheVariants as kind
 use Rattle.lines.specs.declared.request.Request.{Request}
-use Rattle.lines.specs.declared.request.Request.TheVariants.{Load, Add, Shift, Tighten, Certify, Search, Save, Round, Clauses, Explain}
+use Rattle.lines.specs.declared.request.Request.TheVariants.{Load, Add, Shift, Tighten, Certify, Search, Save, Round, Clauses, Explain, Order}
 use Rattle.lines.specs.Kinds.{request_kind}
-use Rattle.lines.specs.Layout.{move_width, weight_width}
+use Rattle.lines.specs.Layout.{count_width, move_width, weight_width}
 use Rattle.decoding.specs.Numbers.{numbers_of}
 use Rattle.decoding.specs.Clauses.{clauses_of}
 use Rattle.reasons.specs.Reasons.{reason_at}
 use Rattle.search.specs.Answer.{search_answer}
 use Rattle.replies.specs.Replies.{longest_fixed, longest_reply}
-use Rattle.replies.proofs.Lengths.{bound_length, certify_length, search_length, reason_length, refusal_length}
+use Rattle.replies.proofs.Lengths.{bound_length, certify_length, search_length, reason_length, order_length, refusal_length}
 use Rattle.saving.proofs.Together.{save_length, save_most}
 use Rattle.requests.specs.Answer.{operated, certified, requested, fixed_reply}
 use Rattle.requests.specs.Wrote.{Asks}
-use Rattle.requests.proofs.Ready.{study_ready}
+use Rattle.requests.proofs.Ready.{study_ready, order_ready}
 
 -- a reply of so many characters at most, but not empty
 abbrev pub UpTo : ℕ → List ℕ → Type 0
@@ -67,6 +69,9 @@ requested_short l b room Save e a = absurd (not_both e refl)
 requested_short l b room Round e a = operated_short kind.Round (direct_outcome b) b _
 requested_short l b room (Clauses q) e a = operated_short kind.Clauses (clauses_outcome q.trains q.scale (clauses_of l)) _ _
 requested_short l b room (Explain q) e a = omega (arith, reason_length (reason_at b q.train q.choice q.limit.0))
+requested_short l b room (Order q) e a =
+    let r = order_ready a in
+    omega (arith, order_length (run_of l q.trains.at count_width q.trains.count), list_length (λ k. field l (q.trains.at + count_width * k) count_width) q.trains.count, r.count, trains_range r.study)
 
 saved_most : (l : List ℕ) (b : List ℤ) → Study b → UpTo longest_reply (requested Save l b).reply
 unfolding requested

@@ -1,5 +1,5 @@
 -- What an accepted line gives to the function for its request: the study, the request's fields, where they stand, and their ranges. What rewrites a study leaves one.
-use mathlib.Core.Path.{◌≡◌, refl}
+use mathlib.Core.Path.{◌≡◌, refl, ◌∙◌}
 use mathlib.Core.Bool.{true}
 use mathlib.Core.List.{List}
 use mathlib.Core.Logic.{dite}
@@ -10,6 +10,7 @@ use lib.IntN.{ℤ, pos, negsuc, nat_abs}
 use lib.ListN.{length}
 use lib.Signed.{mag}
 use Rattle.theory.proofs.Lists.{list_length, list_nth, list_past}
+use Rattle.theory.proofs.Order.{once_cong}
 use Rattle.units.specs.Units.{the_points}
 use Rattle.tables.specs.Block.{trains}
 use Rattle.tables.specs.LineLimits.{max_move, max_budget}
@@ -36,16 +37,17 @@ use Rattle.lines.specs.declared.request.Certify.{Certify}
 use Rattle.lines.specs.declared.request.Search.{Search}
 use Rattle.lines.specs.declared.request.Clauses.{Clauses as ClauseFields}
 use Rattle.lines.specs.declared.request.Explain.{Explain}
+use Rattle.lines.specs.declared.request.Order.{Order}
 use Rattle.lines.specs.declared.request.Request.{Request}
-use Rattle.lines.specs.declared.request.Request.TheVariants.{Load as load_of, Add as add_of, Shift as shift_of, Certify as certify_of, Search as search_of, Clauses as clauses_request, Explain as explain_of}
+use Rattle.lines.specs.declared.request.Request.TheVariants.{Load as load_of, Add as add_of, Shift as shift_of, Certify as certify_of, Search as search_of, Clauses as clauses_request, Explain as explain_of, Order as order_of}
 use Rattle.lines.specs.Kinds.{needs_study, request_kind}
-use Rattle.lines.specs.Layout.{add_train, add_choice, add_points, certify_full_weight, search_budget, explain_train, explain_choice, explain_limit, number_in, signed_in, further, lift_field, move_field, weight_field}
+use Rattle.lines.specs.Layout.{add_train, add_choice, add_points, certify_full_weight, search_budget, explain_train, explain_choice, explain_limit, order_field, order_train, number_in, signed_in, further, lift_field, move_field, weight_field}
 use Rattle.lines.specs.Verdicts.{field_run}
-use Rattle.kinds.proofs.Accepted.{add_fine, shift_fine, certify_fine, search_fine, explain_fine}
+use Rattle.kinds.proofs.Accepted.{add_fine, shift_fine, certify_fine, search_fine, explain_fine, order_fine}
 use Rattle.decoding.proofs.LoadRange.{load_in_range}
 use Rattle.decoding.proofs.ClausesRange.{clauses_in_limits}
 use Rattle.reader.proofs.LineAccepted.{Makes, line_makes, frame_length, add_there, weight_below, explain_there, limit_below}
-use Rattle.requests.specs.Wrote.{Asks, Loads, Adds, Shifts, Certifies, LoadsClauses, Explains}
+use Rattle.requests.specs.Wrote.{Asks, Loads, Adds, Shifts, Certifies, LoadsClauses, Explains, Orders}
 
 module _ {l : List ℕ} {b : List ℤ} {q : Request} {room : ℕ} (a : Asks l b q room) where
   makes : Makes l b q
@@ -154,6 +156,22 @@ explain_ready {l} {b} {q} a =
     let s = study_ready a refl in
     let f = explain_fine l b m.1 in
     rw e (record { study = s; train = (explain_there s f).0; choice = (explain_there s f).1; limit = limit_below (frame_length (frame a)) f })
+
+-- ---- 0B, the order of the trains
+
+pub order_ready : {l : List ℕ} {b : List ℤ} {q : Order} {room : ℕ} → Asks l b (order_of q) room → Orders l b q
+order_ready {l} {b} {q} a =
+    let m = makes a in
+    let e : q ≡ record { trains = field_run order_field.at (trains b) } = cc in
+    let s = study_ready a refl in
+    let f = order_fine l (trains b) m.1 in
+    rw e
+    (record {
+      study = s;
+      count = refl;
+      inside = omega (arith, f.ends, even a);
+      once = once_cong (trains b) _ (order_train l) (λ d h. list_nth (order_train l) 0 (trains b) d h) ∙ f.once;
+    })
 
 -- ---- a shift, a tightening or a directional round leaves a study, done or declined
 

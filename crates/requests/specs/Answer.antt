@@ -8,6 +8,7 @@ use Rattle.tables.specs.Block.{trains}
 use Rattle.tables.specs.WellFormed.{well_formed}
 use Rattle.operations.specs.Add.{added, add_outcome}
 use Rattle.operations.specs.Load.{loaded_block}
+use Rattle.operations.specs.Order.{ordered_block}
 use Rattle.operations.specs.Saved.{saved_numbers}
 use Rattle.rewriting.specs.Judged.{kept}
 use Rattle.clauses.specs.Outcomes.{clauses_outcome}
@@ -20,17 +21,17 @@ use Rattle.frames.specs.Runs.{run_of, signed_run_of}
 use Rattle.lines.specs.declared.kind.Kind.{Kind}
 use Rattle.lines.specs.declared.kind.Kind.TheVariants as kind
 use Rattle.lines.specs.declared.request.Request.{Request}
-use Rattle.lines.specs.declared.request.Request.TheVariants.{Load, Add, Shift, Tighten, Certify, Search, Save, Round, Clauses, Explain}
+use Rattle.lines.specs.declared.request.Request.TheVariants.{Load, Add, Shift, Tighten, Certify, Search, Save, Round, Clauses, Explain, Order}
 use Rattle.lines.specs.declared.request.Line.{Line}
 use Rattle.lines.specs.declared.request.Line.TheVariants.{Asked, Refused}
-use Rattle.lines.specs.Layout.{move_width, weight_width}
+use Rattle.lines.specs.Layout.{count_width, move_width, weight_width}
 use Rattle.lines.specs.Text.{load_digits}
 use Rattle.decoding.specs.Numbers.{numbers_of}
 use Rattle.decoding.specs.Clauses.{clauses_of, clause_numbers_of}
 use Rattle.reader.specs.Reading.{line_of}
 use Rattle.reasons.specs.Reasons.{reason_at}
 use Rattle.search.specs.Answer.{search_answer}
-use Rattle.replies.specs.Replies.{refusal_reply, bound_reply, certify_reply, search_reply, reason_reply}
+use Rattle.replies.specs.Replies.{refusal_reply, bound_reply, certify_reply, search_reply, reason_reply, order_reply}
 
 -- the block after the call, and the reply
 pub record Answer : Type 0 where
@@ -74,6 +75,7 @@ requested Save l b = saved b
 requested Round l b = operated kind.Round (direct_outcome b) b (kept b (directed b))
 requested (Clauses q) l b = operated kind.Clauses (clauses_outcome q.trains q.scale (clauses_of l)) b (loaded_block (clause_numbers_of l))
 requested (Explain q) l b = answered b (reason_reply (reason_at b q.train q.choice (number_of_points q.limit)))
+requested (Order q) l b = let trains = run_of l q.trains.at count_width q.trains.count in answered (ordered_block trains b) (order_reply trains)
 
 -- what a line asks, done, or the refusal
 abbrev pub carried_out : Line → List ℕ → List ℤ → Answer
@@ -92,6 +94,7 @@ fixed_reply kind.Save = false
 fixed_reply kind.Round = true
 fixed_reply kind.Clauses = true
 fixed_reply kind.Explain = true
+fixed_reply kind.Order = true
 
 -- the kinds that leave the block as it was, accepted or declined: 'Certify and search change nothing in the block', nor does a save or a reason
 abbrev pub leaves_block : Kind → Bool
@@ -105,6 +108,7 @@ leaves_block kind.Save = true
 leaves_block kind.Round = false
 leaves_block kind.Clauses = false
 leaves_block kind.Explain = true
+leaves_block kind.Order = false
 
 -- 17: a reply that is longer than the room for it 'hands back an empty part and writes nothing', and leaves the block
 abbrev pub fitted : ℕ → List ℤ → Answer → Answer

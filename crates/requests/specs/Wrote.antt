@@ -1,5 +1,7 @@
 -- What a function that answers a line leaves, and what the functions for the requests ask.
 use Rattle.std.specs.Prelude.{◌≡◌, List, true, ℕ, ◌+◌, ◌*◌, ◌^◌, ◌<◌, ◌≤◌, ℤ, length}
+use Rattle.theory.specs.Lists.{nth}
+use Rattle.theory.specs.Order.{each_once}
 use Rattle.refusals.specs.Verdicts.{Fine}
 use Rattle.units.specs.Units.{number_of_points}
 use Rattle.tables.specs.Block.{max_trains, max_choices, max_pairs, entries_of_pair, max_cost, trains, size}
@@ -20,10 +22,11 @@ use Rattle.lines.specs.declared.request.Shift.{Shift}
 use Rattle.lines.specs.declared.request.Certify.{Certify}
 use Rattle.lines.specs.declared.request.Clauses.{Clauses}
 use Rattle.lines.specs.declared.request.Explain.{Explain}
+use Rattle.lines.specs.declared.request.Order.{Order}
 use Rattle.lines.specs.declared.request.Request.{Request}
 use Rattle.lines.specs.declared.request.Request.TheVariants.{Load as load_of, Clauses as clauses_asked}
 use Rattle.lines.specs.declared.request.Line.TheVariants.{Asked}
-use Rattle.lines.specs.Layout.{move_width, weight_width, load_trains, load_scale}
+use Rattle.lines.specs.Layout.{count_width, move_width, weight_width, load_trains, load_scale}
 use Rattle.kinds.specs.Load.{load_verdict, load_request}
 use Rattle.kinds.specs.Clauses.{clauses_verdict, clauses_request}
 use Rattle.decoding.specs.Numbers.{numbers_of}
@@ -90,3 +93,10 @@ pub record Explains (b : List ℤ) (q : Explain) : Type 0 where
   pub train : q.train < trains b
   pub choice : q.choice < size b q.train
   pub limit : number_of_points q.limit < 2 ^ 32
+
+-- an order that stands in the line, with each train of the block exactly once
+pub record Orders (l : List ℕ) (b : List ℤ) (q : Order) : Type 0 where
+  pub study : Study b
+  pub count : q.trains.count ≡ trains b
+  pub inside : 2 * (q.trains.at + count_width * q.trains.count) ≤ length l
+  pub once : each_once q.trains.count (nth (run_of l q.trains.at count_width q.trains.count)) ≡ true

@@ -9,6 +9,7 @@ mod clauses_line;
 mod explain_line;
 pub mod line;
 mod load_line;
+mod order_line;
 mod outcome;
 mod round_line;
 mod save_line;

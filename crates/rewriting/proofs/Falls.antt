@@ -133,10 +133,10 @@ falling_step {source} {high} {room} {r} {c} f len below above x =
     let still = open_same (tight_loaded f c) in
     record {
       whole = record {
-        natural = λ p h e. tight_cases f c len x.whole (λ z. z ≡ pos (nat z)) p h (sym (still p h) ∙ e) (λ m. refl) (λ q. refl) refl;
+        natural = λ p h e. tight_cases f c len x.whole (λ z. z ≡ pos (nat z)) p h (sym (still p) ∙ e) (λ m. refl) (λ q. refl) refl;
       };
       sources = λ p h e l.
-          let d = sym (still p h) ∙ e in
+          let d = sym (still p) ∙ e in
           tight_cases f c len x.whole (λ z. nat z ≤ high) p h d (λ m. omega (arith, x.sources p h d l)) (λ q. absurd (omega arith)) (x.sources p h d l);
       most = tight_room f c room high len g x.most;
     }

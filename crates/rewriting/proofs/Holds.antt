@@ -51,10 +51,10 @@ non_negative_held {b} {c} s e o =
       choices = λ i a h q t.
           let z = s.sizes i (omega (arith, s.trains)) in
           let n = s.trains in
-          o.natural (held_choice_place i a) (omega arith) (open_same e (held_choice_place i a) (omega arith) ∙ open_choice b i a (omega arith) (omega arith) ∙ t);
+          o.natural (held_choice_place i a) (omega arith) (open_same e (held_choice_place i a) ∙ open_choice b i a (omega arith) (omega arith) ∙ t);
       entries = λ k a d h q r t.
           let l : k < max_pairs = omega (arith, s.pairs) in
           let y = s.sizes (first b k) (s.firsts k l) in
           let z = s.sizes (second b k) (s.seconds k l) in
-          o.natural (held_entry_place k a d) (omega arith) (open_same e (held_entry_place k a d) (omega arith) ∙ open_entry b k a d ∙ t);
+          o.natural (held_entry_place k a d) (omega arith) (open_same e (held_entry_place k a d) ∙ open_entry b k a d (omega arith) (omega arith) (omega arith) ∙ t);
     }

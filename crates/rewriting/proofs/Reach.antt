@@ -13,19 +13,19 @@ use borrow.Author.Tests.{lt-ltb, ltb-true}
 use Rattle.theory.specs.Sum.{update}
 use Rattle.theory.proofs.Range.{both_true, not_both}
 use Rattle.theory.proofs.Sum.{update_same, update_other}
-use Rattle.tables.specs.Block.{block_length, max_trains, max_choices, max_pairs, max_cost, max_parts, entries_of_pair, constant_place, loaded_choices_from, held_choices_from, loaded_entries_from, held_entries_from, loaded_choice_place, loaded_entry_place, held_choice_place, held_entry_place, at, figure, trains, pairs, constant, size, first, second, held_choice, held_entry}
+use Rattle.tables.specs.Block.{block_length, max_trains, max_choices, max_pairs, max_cost, max_parts, entries_of_pair, constant_place, loaded_choices_from, held_choices_from, loaded_entries_from, held_entries_from, order_from, order_place, loaded_choice_place, loaded_entry_place, held_choice_place, held_entry_place, at, figure, trains, pairs, constant, size, first, second, held_choice, held_entry}
 use Rattle.tables.specs.Plans.{IsPlan, Open, total, shape_of, held_costs, held_total}
 use Rattle.tables.specs.declared.place_limits.Limits.{Limits}
 use Rattle.tables.specs.WellFormed.{from_to, cost_to, within, is_open, used_if, choice_used, entry_used, head_limits, limits_at, Study}
 use Rattle.tables.proofs.Limits.{natural_open, within_pos, choice_used_lem, entry_used_lem, limits_head, limits_loaded_choices, limits-held_choices, limits_loaded_entries, limits-held_entries}
-use Rattle.tables.proofs.Study.{study_from, study_place, shape_natural, trains_range, size_range, first-below-second, first-below-trains, second-below-trains}
+use Rattle.tables.proofs.Study.{study_from, study_place, shape_natural, order_natural, trains_range, size_range, first-below-second, first-below-trains, second-below-trains}
 use Rattle.tables.proofs.Plans.{open_plan, study_shaped, same_shape_total, constant_at_most_total, choice_at_most_total, pair_at_most_total}
 use Rattle.rewriting.specs.declared.sides.PlaceRun.{PlaceRun}
 use Rattle.rewriting.specs.declared.sides.Side.TheVariants.{Rows, Columns}
 use Rattle.rewriting.specs.Moves.{move_run, NonEmpty}
 use Rattle.rewriting.specs.Leasts.{mate_place, NonNegative}
 use Rattle.rewriting.proofs.Runs.{move_other}
-use Rattle.rewriting.proofs.Shape.{Between, Loaded, SameLoaded, Project, lane, unary, Asked, Moved, none, move}
+use Rattle.rewriting.proofs.Shape.{Between, Loaded, SameLoaded, loaded_order, Project, lane, unary, Asked, Moved, none, move}
 use Rattle.rewriting.proofs.Opens.{by_table, mate_loaded, open_all, open_same, mates_open}
 
 -- ---- places that no move meets
@@ -88,14 +88,23 @@ module _ {b : List ℤ} (s : Study b) (o : Open (shape_of b)) where
           ap (λ (p : ℕ). is_open (at b p)) (sym z) ∙ o.entries (d / 64) (d % 64 / 8) (d % 8) u.0 u.1 u.2
       by false e = unused (entry_used b d) max_cost (loaded_entries_from + d) (omega arith) (limits_loaded_entries b d h) e
 
-  -- of H
+  -- a place of the order, or past the end
+  order_plain : (p : ℕ) → order_from ≤ p → is_open (at b p) ≡ true
+  order_plain p l =
+      dite (dec_lt p block_length)
+      (λ (h : p < block_length). let z : order_place (p - order_from) ≡ p = omega arith in rw z at (natural_open _ _ (order_natural s (p - order_from) (omega arith))))
+      (λ n. natural_open _ _ (get_or-eq_default b (pos 0) (omega (arith, s.whole))))
+
+  -- of H and of the order
   loaded_plain : (p : ℕ) → Loaded p → is_open (at b p) ≡ true
   loaded_plain p l =
       ⊎_elim
       (λ (w : Between loaded_choices_from held_choices_from p).
       let z : loaded_choices_from + (p - loaded_choices_from) ≡ p = omega (arith, w.low) in rw z at (choice_plain (p - loaded_choices_from) (omega (arith, w.high))))
+      (λ v. ⊎_elim
       (λ (w : Between loaded_entries_from held_entries_from p).
       let z : loaded_entries_from + (p - loaded_entries_from) ≡ p = omega (arith, w.low) in rw z at (entry_plain (p - loaded_entries_from) (omega (arith, w.high))))
+      (λ (w : order_from ≤ p). order_plain p w) v)
       l.table
 
   -- and so of T, by its mates
@@ -103,7 +112,7 @@ module _ {b : List ℤ} (s : Study b) (o : Open (shape_of b)) where
   study_plain p =
       dite (dec_lt p loaded_choices_from) (λ (h : p < loaded_choices_from). natural_open _ _ (shape_natural s p h))
       (λ n. dite (dec_lt p block_length)
-      (λ (h : p < block_length). let l : loaded_choices_from ≤ p = omega arith in sym (mates_open s p l h) ∙ loaded_plain (mate_place p) (mate_loaded p l h))
+      (λ (h : p < block_length). let l : loaded_choices_from ≤ p = omega arith in sym (mates_open s p l) ∙ loaded_plain (mate_place p) (mate_loaded p l))
       (λ m. natural_open _ _ (get_or-eq_default b (pos 0) (omega (arith, s.whole)))))
 
 natural_zero : (c : List ℤ) (p : ℕ) → at c p ≡ pos 0 → at c p ≡ pos (figure c p)
@@ -113,7 +122,7 @@ natural_zero c p e = rw e
 -- so an end without an open number below 0 has none at all
 pub plain_natural : {b c : List ℤ} → Study b → Open (shape_of b) → SameLoaded b c → NonNegative c → (p : ℕ) → at c p ≡ pos (figure c p)
 plain_natural {b} {c} s o l e p =
-    dite (dec_lt p block_length) (λ (h : p < block_length). e.natural p h (open_same l p h ∙ open_all b (study_plain s o) p))
+    dite (dec_lt p block_length) (λ (h : p < block_length). e.natural p h (open_same l p ∙ open_all b (study_plain s o) p))
     (λ n. natural_zero c p (get_or-eq_default c (pos 0) (omega (arith, l.shape.whole, s.whole))))
 
 -- the constant's own limits
@@ -129,7 +138,7 @@ within_cost high (negsuc n) e = absurd (not_both e refl)
 
 -- ---- a changed block whose open numbers are from 0 to L
 
--- c has the shape of b and its H, differs from it only where a plan may pay, stands as b does where that is below 0, and has open choices, open entries and a constant from 0 to L
+-- c has the shape of b, its H and its order, differs from it only where a plan may pay, stands as b does where that is below 0, and has open choices, open entries and a constant from 0 to L
 module _ {b : List ℤ} (s : Study b) (c : List ℤ) (e : SameLoaded b c) (unmet : (p : ℕ) → Unmet b p → at c p ≡ at b p) (closed : (p : ℕ) → is_open (at b p) ≡ false → at c p ≡ at b p)
     (constant-in : within (from_to 0 max_parts) (at c constant_place) ≡ true)
     (choice-in : (i a : ℕ) → i < trains b → a < size b i → is_open (at b (held_choice_place i a)) ≡ true → within (from_to 0 max_parts) (at c (held_choice_place i a)) ≡ true)
@@ -172,7 +181,7 @@ module _ {b : List ℤ} (s : Study b) (c : List ℤ) (e : SameLoaded b c) (unmet
           }
 
   held_entry_lem : (o : ℕ) → o < max_pairs * entries_of_pair → Fits (held_entries_from + o)
-  held_entry_lem o h = by_use (entry_used b o) (held_entries_from + o) (omega arith) (limits-held_entries b o) taken free
+  held_entry_lem o h = by_use (entry_used b o) (held_entries_from + o) (omega arith) (limits-held_entries b o h) taken free
     where
       taken : entry_used b o ≡ true → is_open (at b (held_entries_from + o)) ≡ true → within (from_to 0 max_parts) (at c (held_entries_from + o)) ≡ true
       taken t w =
@@ -199,15 +208,16 @@ module _ {b : List ℤ} (s : Study b) (c : List ℤ) (e : SameLoaded b c) (unmet
       by_table Fits p l
       (λ q. fits_same p h (e.loaded p (record { table = inl (record { low = l; high = q }) })))
       (λ q r. let z : held_choices_from + (p - held_choices_from) ≡ p = omega arith in rw z at (held_choice_lem (p - held_choices_from) (omega arith)))
-      (λ q r. fits_same p h (e.loaded p (record { table = inr (record { low = q; high = r }) })))
-      (λ q. let z : held_entries_from + (p - held_entries_from) ≡ p = omega arith in rw z at (held_entry_lem (p - held_entries_from) (omega arith)))
+      (λ q r. fits_same p h (e.loaded p (record { table = inr (inl (record { low = q; high = r })) })))
+      (λ q r. let z : held_entries_from + (p - held_entries_from) ≡ p = omega arith in rw z at (held_entry_lem (p - held_entries_from) (omega arith)))
+      (λ q. fits_same p h (e.loaded p (record { table = inr (inr q) })))
 
   pub inside_study : Study c
-  inside_study = study_from e.shape s limited still
+  inside_study = study_from e.shape s (loaded_order e) limited still
     where
-      limited : (p : ℕ) → p < block_length → (p ≡ constant_place) ⊎ (loaded_choices_from ≤ p) → within (limits_at b p) (at c p) ≡ true
+      limited : (p : ℕ) → p < order_from → (p ≡ constant_place) ⊎ (loaded_choices_from ≤ p) → within (limits_at b p) (at c p) ≡ true
       limited p h (inl z) = rw (z, limits_head b constant_place (omega arith)) (head_place (at c constant_place) constant-in)
-      limited p h (inr l) = (cost_fits p l h).limited
+      limited p h (inr l) = (cost_fits p l (omega arith)).limited
 
       still : (p : ℕ) → loaded_choices_from ≤ p → is_open (at c p) ≡ is_open (at b p)
       still p l =

@@ -38,7 +38,7 @@ loaded_alike {b} {c} s e =
           let l : k < max_pairs = omega (arith, s.pairs) in
           let y = s.sizes (first b k) (s.firsts k l) in
           let z = s.sizes (second b k) (s.seconds k l) in
-          ap is_open (sym (e.loaded (loaded_entry_place k a d) (record { table = inr (record { low = omega arith; high = omega arith }) })));
+          ap is_open (sym (e.loaded (loaded_entry_place k a d) (record { table = inr (inl (record { low = omega arith; high = omega arith })) })));
     }
 
 -- the forbidden entries of a study

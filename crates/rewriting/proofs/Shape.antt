@@ -16,11 +16,11 @@ use Rattle.theory.specs.Fold.{iter}
 use Rattle.theory.proofs.Range.{both_true}
 use Rattle.theory.proofs.Fold.{iter-ind}
 use Rattle.units.specs.Units.{scale_min, scale_max}
-use Rattle.tables.specs.Block.{block_length, max_trains, max_choices, max_pairs, max_cost, max_parts, trains_place, scale_place, pairs_place, constant_place, sizes_from, firsts_from, seconds_from, loaded_choices_from, held_choices_from, loaded_entries_from, held_entries_from, at, nat, figure, trains, pairs, size, first, second}
+use Rattle.tables.specs.Block.{block_length, max_trains, max_choices, max_pairs, max_cost, max_parts, trains_place, scale_place, pairs_place, constant_place, sizes_from, firsts_from, seconds_from, loaded_choices_from, held_choices_from, loaded_entries_from, held_entries_from, order_from, at, nat, figure, trains, pairs, size, first, second}
 use Rattle.tables.specs.declared.place_limits.Limits.{Limits}
-use Rattle.tables.specs.WellFormed.{from_to, cost_to, within, used_if, choice_used, entry_used, head_limits, shape_limits, cost_limits, limits_at, Study}
+use Rattle.tables.specs.WellFormed.{from_to, cost_to, within, used_if, choice_used, entry_used, head_limits, shape_limits, cost_limits, order_limits, limits_at, Study}
 use Rattle.tables.proofs.Limits.{within_high}
-use Rattle.tables.proofs.Study.{trains_range, pairs_range, size_range, size_high, first_high, second_high, first-below-trains, second-below-trains, SameShape, same_trains, same_pairs, same_size, same_first, same_second}
+use Rattle.tables.proofs.Study.{trains_range, pairs_range, size_range, size_high, first_high, second_high, first-below-trains, second-below-trains, SameShape, SameOrder, same_trains, same_pairs, same_size, same_first, same_second}
 use Rattle.rewriting.specs.declared.sides.PlaceRun.{PlaceRun}
 use Rattle.rewriting.specs.declared.sides.Side.{Side}
 use Rattle.rewriting.specs.declared.sides.Side.TheVariants.{Rows, Columns}
@@ -48,7 +48,7 @@ used_cost : (t : Bool) (high : ℕ) → high ≤ max_parts → Most (used_if t (
 used_cost t high h = choose t (record { most = h }) (range 0 0 (omega arith))
 
 pub limits_most : (b : List ℤ) (p : ℕ) → Most (limits_at b p)
-unfolding limits_at shape_limits head_limits cost_limits
+unfolding limits_at shape_limits head_limits cost_limits order_limits
 limits_most b p =
     choose (ltb p loaded_choices_from)
     (choose (ltb p sizes_from)
@@ -56,9 +56,11 @@ limits_most b p =
     (choose (eqb p scale_place) (range scale_min scale_max (omega arith)) (choose (eqb p pairs_place) (range 0 max_pairs (omega arith)) (range 0 max_parts (omega arith)))))
     (choose (ltb p firsts_from) (used (ltb (p - sizes_from) (trains b)) 1 max_choices (omega arith))
     (choose (ltb p seconds_from) (used (ltb (p - firsts_from) (pairs b)) 0 (max_trains - 1) (omega arith)) (used (ltb (p - seconds_from) (pairs b)) 0 (max_trains - 1) (omega arith)))))
+    (choose (ltb p order_from)
     (choose (ltb p held_choices_from) (used_cost (choice_used b (p - loaded_choices_from)) max_cost (omega arith))
     (choose (ltb p loaded_entries_from) (used_cost (choice_used b (p - held_choices_from)) max_parts (omega arith))
     (choose (ltb p held_entries_from) (used_cost (entry_used b (p - loaded_entries_from)) max_cost (omega arith)) (used_cost (entry_used b (p - held_entries_from)) max_parts (omega arith)))))
+    (used (ltb (p - order_from) (trains b)) 0 (max_trains - 1) (omega arith)))
 
 past_end : (b : List ℤ) (p : ℕ) → at b p ≡ pos 0 → mag (at b p) ≤ max_parts
 past_end b p e = rw e (omega arith)
@@ -113,15 +115,16 @@ shape_same b = record { whole = refl; kept = λ p h n. refl }
 pub shape_then : {b c d : List ℤ} → SameShape b c → SameShape c d → SameShape b d
 shape_then e f = record { whole = f.whole ∙ e.whole; kept = λ p h n. f.kept p h n ∙ e.kept p h n }
 
--- a place of H
+-- from one place to another
 pub record Between (from to p : ℕ) : Type 0 where
   pub low : from ≤ p
   pub high : p < to
 
+-- a place of H, or of the order
 pub record Loaded (p : ℕ) : Type 0 where
-  pub table : Between loaded_choices_from held_choices_from p ⊎ Between loaded_entries_from held_entries_from p
+  pub table : Between loaded_choices_from held_choices_from p ⊎ (Between loaded_entries_from held_entries_from p ⊎ (order_from ≤ p))
 
--- c has the shape of b, and H as b has it: it differs from b in held costs and constant only
+-- c has the shape of b, and H and the order as b has them: it differs from b in held costs and constant only
 pub record SameLoaded (b c : List ℤ) : Type 0 where
   pub shape : SameShape b c
   pub loaded : (p : ℕ) → Loaded p → at c p ≡ at b p
@@ -131,6 +134,9 @@ loaded_same b = record { shape = shape_same b; loaded = λ p l. refl }
 
 pub loaded_then : {b c d : List ℤ} → SameLoaded b c → SameLoaded c d → SameLoaded b d
 loaded_then e f = record { shape = shape_then e.shape f.shape; loaded = λ p l. f.loaded p l ∙ e.loaded p l }
+
+pub loaded_order : {b c : List ℤ} → SameLoaded b c → SameOrder b c
+loaded_order e = record { order_kept = λ p h. e.loaded p (record { table = inr (inr h) }) }
 
 module _ {b c : List ℤ} (e : SameShape b c) (s : ShapeInRange b) where
   pub shape_in_range_kept : ShapeInRange c
@@ -206,8 +212,8 @@ module _ {b : List ℤ} (s : ShapeInRange b) where
         apart = omega arith;
         inside = λ i l. omega (arith, s.pairs);
         there = omega arith;
-        costs = record { held = λ i l. record { low = omega arith; table = inr (omega arith) } };
-        goal = inr (record { low = omega arith; table = inl (omega arith) });
+        costs = record { held = λ i l. record { low = omega arith; table = inr (omega arith); high = omega (arith, s.pairs) } };
+        goal = inr (record { low = omega arith; table = inl (omega arith); high = omega arith });
         missed = λ i l z. omega arith;
       }
   project_between_costs (lane Columns k x h q) =
@@ -218,8 +224,8 @@ module _ {b : List ℤ} (s : ShapeInRange b) where
         apart = omega arith;
         inside = λ i l. omega (arith, s.pairs);
         there = omega arith;
-        costs = record { held = λ i l. record { low = omega arith; table = inr (omega arith) } };
-        goal = inr (record { low = omega arith; table = inl (omega arith) });
+        costs = record { held = λ i l. record { low = omega arith; table = inr (omega arith); high = omega (arith, s.pairs) } };
+        goal = inr (record { low = omega arith; table = inl (omega arith); high = omega arith });
         missed = λ i l z. omega arith;
       }
   project_between_costs (unary i h) =
@@ -228,7 +234,7 @@ module _ {b : List ℤ} (s : ShapeInRange b) where
         apart = omega arith;
         inside = λ j l. omega (arith, s.trains);
         there = omega arith;
-        costs = record { held = λ j l. record { low = omega arith; table = inl (omega (arith, s.trains)) } };
+        costs = record { held = λ j l. record { low = omega arith; table = inl (omega (arith, s.trains)); high = omega (arith, s.trains) } };
         goal = inl refl;
         missed = λ j l z. omega arith;
       }
@@ -244,19 +250,22 @@ project_run {b} s p = between_costs_run b s.whole (project_between_costs s p)
 pub project_held : {b : List ℤ} {r : PlaceRun} → ShapeInRange b → Project b r → HeldRun r
 project_held s p = (project_between_costs s p).costs
 
--- no held cost is a place of H
+-- no held cost is a place of H or of the order
 loaded_not_held : {p q : ℕ} → Loaded p → HeldPlace q → p ≡ q → ⊥
 loaded_not_held {p} {q} l h e =
     ⊎_elim
     (λ (w : Between loaded_choices_from held_choices_from p). omega (arith, h.low))
-    (λ (w : Between loaded_entries_from held_entries_from p). ⊎_elim (λ (v : q < loaded_entries_from). omega arith) (λ (v : held_entries_from ≤ q). omega arith) h.table)
+    (λ w. ⊎_elim
+    (λ (x : Between loaded_entries_from held_entries_from p). ⊎_elim (λ (v : q < loaded_entries_from). omega arith) (λ (v : held_entries_from ≤ q). omega arith) h.table)
+    (λ (x : order_from ≤ p). omega (arith, h.high)) w)
     l.table
 
 loaded_not_constant : {p : ℕ} → Loaded p → p ≡ constant_place → ⊥
 loaded_not_constant {p} l e =
-    ⊎_elim (λ (w : Between loaded_choices_from held_choices_from p). omega arith) (λ (w : Between loaded_entries_from held_entries_from p). omega arith) l.table
+    ⊎_elim (λ (w : Between loaded_choices_from held_choices_from p). omega arith)
+    (λ w. ⊎_elim (λ (x : Between loaded_entries_from held_entries_from p). omega arith) (λ (x : order_from ≤ p). omega arith) w) l.table
 
--- a move changes neither the shape nor H
+-- a move changes neither the shape nor H nor the order
 pub move_loaded : (r : PlaceRun) (α : ℤ) (b : List ℤ) → BetweenCosts r → SameLoaded b (move_run r α b)
 move_loaded r α b f =
     record {

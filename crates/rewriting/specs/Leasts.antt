@@ -3,7 +3,7 @@ use Rattle.std.specs.Prelude.{◌≡◌, Bool, true, false, cond, List, ◌⊎�
 use Rattle.theory.specs.Fold.{iter}
 use Rattle.units.specs.declared.Parts.{Parts}
 use Rattle.units.specs.Units.{the_parts, number_of_parts}
-use Rattle.tables.specs.Block.{block_length, loaded_choices_from, held_choices_from, loaded_entries_from, held_entries_from, at, figure, size}
+use Rattle.tables.specs.Block.{block_length, loaded_choices_from, held_choices_from, loaded_entries_from, held_entries_from, order_from, at, figure, size}
 use Rattle.tables.specs.WellFormed.{is_open}
 use Rattle.rewriting.specs.declared.sides.PlaceRun.{PlaceRun}
 use Rattle.rewriting.specs.declared.sides.Side.{Side}
@@ -15,6 +15,7 @@ use Rattle.rewriting.specs.Moves.{run_place, move_run, lane_train, lane_run, cho
 pub record HeldPlace (p : ℕ) : Type 0 where
   pub low : held_choices_from ≤ p
   pub table : (p < loaded_entries_from) ⊎ (held_entries_from ≤ p)
+  pub high : p < order_from
 
 -- a run of such places
 pub record HeldRun (r : PlaceRun) : Type 0 where
@@ -25,9 +26,10 @@ unfoldable pub mate_place : ℕ → ℕ
 mate_place p =
     cond (ltb p held_choices_from) p
     (cond (ltb p loaded_entries_from) (p - (held_choices_from - loaded_choices_from))
-    (cond (ltb p held_entries_from) p (p - (held_entries_from - loaded_entries_from))))
+    (cond (ltb p held_entries_from) p
+    (cond (ltb p order_from) (p - (held_entries_from - loaded_entries_from)) p)))
 
--- a place whose entry is not forbidden; so are the shape's places and the constant's
+-- a place whose entry is not forbidden; so are the shape's places, the constant's, and those of the order that are not below 0
 unfoldable pub open_place : List ℤ → ℕ → Bool
 open_place b p = cond (ltb p loaded_choices_from) true (is_open (at b (mate_place p)))
 

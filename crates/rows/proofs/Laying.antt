@@ -1,21 +1,24 @@
 -- The table, laid part by part: rows of costs one after the other, and pairs linked in their order.
 use mathlib.Core.Path.{◌≡◌, refl, sym, ap, ◌∙◌}
+use mathlib.Core.Bool.{true, false}
 use mathlib.Core.List.{List, []}
 use mathlib.Core.Logic.{inl, inr, ⊎_elim, dite}
-use Prim.Native.Nat.{ℕ, ◌+◌, ◌*◌, ◌-◌, ◌<◌, ◌≤◌}
+use Prim.Native.Nat.{ℕ, ◌+◌, ◌*◌, ◌<◌, ◌≤◌}
 use native.Mathlib.Nat.{eq-or-lt_of_le}
 use native.Mathlib.Decide.{ℕ_discrete}
 use native.Mathlib.Omega.{arith}
-use lib.IntN.{ℤ}
 use lib.ListN.{length, get_or, set, length-set}
 use lib.Seq.{get_or-set_same, get_or-set_other}
-use Rattle.tables.specs.Block.{max_choices, max_pairs, pairs, size, first, second}
+use Rattle.theory.specs.Lists.{nth}
+use Rattle.tables.specs.Block.{max_choices, max_pairs}
 use Rattle.tables.specs.Block as block
-use Rattle.tables.specs.WellFormed.{Study}
-use Rattle.tables.specs.Plans.{Shape, shape_of}
-use Rattle.tables.proofs.Study.{pairs_range, size_range, first-below-trains, pairs_ascend}
+use Rattle.tables.specs.Plans.{Shape, Costs, shape_of}
+use Rattle.orders.specs.Ordered.{turned, ordered_shape}
+use Rattle.orders.proofs.Listed.{listed_ascends}
 use Rattle.rows.specs.declared.links.Links.{Links}
+use Rattle.rows.specs.declared.listing.Listing.{Listing}
 use Rattle.rows.specs.Walled.{walled, walled_costs}
+use Rattle.rows.specs.Listing.{numbers_of, shape_in, costs_in}
 use Rattle.rows.specs.Limits.{Walkable}
 use Rattle.rows.specs.Sums.{Sums}
 use Rattle.rows.specs.Links.{pair_row, Back}
@@ -35,46 +38,66 @@ set_more P l d v i h below here k q =
 -- ---- the trains' own rows
 
 -- one train's row more
-pub owned_more : (b : List ℤ) (q : List (List ℕ)) (row : List ℕ) (j : ℕ) → j < length q → Sums (λ a. walled b (block.held_choice_place j 0 + a)) row
-    → ((i a : ℕ) → i < j → a < max_choices → sum_at q i a ≡ (walled_costs b).choice i a)
-    → (i a : ℕ) → i < j + 1 → a < max_choices → sum_at (set q j row) i a ≡ (walled_costs b).choice i a
+pub owned_more : (l : Listing) (q : List (List ℕ)) (row : List ℕ) (d : ℕ) → d < length q → Sums (λ a. walled (numbers_of l) (block.held_choice_place (nth l.ordered.order d) 0 + a)) row
+    → ((i a : ℕ) → i < d → a < max_choices → sum_at q i a ≡ (costs_in l).choice i a)
+    → (i a : ℕ) → i < d + 1 → a < max_choices → sum_at (set q d row) i a ≡ (costs_in l).choice i a
 unfolding walled_costs
-owned_more b q row j h s below i a r f =
-    set_more (λ k row. (a : ℕ) → a < max_choices → get_or row a 0 ≡ walled b (block.held_choice_place k a)) q [] row j h (λ k p a g. below k a p g)
+owned_more l q row d h s below i a r f =
+    set_more (λ k row. (a : ℕ) → a < max_choices → get_or row a 0 ≡ (costs_in l).choice k a) q [] row d h (λ k p a g. below k a p g)
     (λ a g.
-    let e : block.held_choice_place j 0 + a ≡ block.held_choice_place j a = omega arith in
-    s.each a g ∙ ap (walled b) e)
+    let t = nth l.ordered.order d in
+    let e : block.held_choice_place t 0 + a ≡ block.held_choice_place t a = omega arith in
+    s.each a g ∙ ap (walled (numbers_of l)) e)
     i r a f
 
 -- ---- the costs of the pairs
 
-module _ {b : List ℤ} (s : Study b) where
+module _ (s : Shape) (c : Costs) (few : (k : ℕ) → k < s.pairs → s.size (s.first k) ≤ max_choices) (most : s.pairs ≤ max_pairs) where
   -- one row of pair k more: those of the pairs before stay
-  pub rows_more : (k c d : ℕ) (l : List (List ℕ)) (row : List ℕ) → k < pairs b → d ≡ size b (first b k) → c < d → length l ≡ max_choices * max_pairs
-      → Sums (λ a. walled b (block.held_entry_place k c 0 + a)) row
-      → CostsLaid (shape_of b) (walled_costs b) k l × RowsLaid (walled_costs b) k c l
-      → CostsLaid (shape_of b) (walled_costs b) k (set l (cost_row k c) row) × RowsLaid (walled_costs b) k (c + 1) (set l (cost_row k c) row)
-  unfolding walled_costs
-  rows_more k c d l row h o g w t u =
-      let m = pairs_range s in
-      let n = size_range s (first b k) (first-below-trains s k h) in (
-        (λ i r e a q f.
-            let z = size_range s (first b i) (first-below-trains s i (omega arith)) in
-            rw (get_or-set_other l (cost_row k c) (cost_row i e) row [] (λ y. omega arith)) (u.0 i r e a q f)),
-        (λ e a q f.
+  pub rows_more : (k e : ℕ) (l : List (List ℕ)) (row : List ℕ) → k < s.pairs → e < s.size (s.first k) → length l ≡ max_choices * max_pairs → Sums (c.pair k e) row
+      → CostsLaid s c k l × RowsLaid c k e l → CostsLaid s c k (set l (cost_row k e) row) × RowsLaid c k (e + 1) (set l (cost_row k e) row)
+  rows_more k e l row h g w t u =
+      let n = few k h in (
+        (λ i r d a q f.
+            let z = few i (omega arith) in
+            rw (get_or-set_other l (cost_row k e) (cost_row i d) row [] (λ y. omega arith)) (u.0 i r d a q f)),
+        (λ d a q f.
             ⊎_elim
-            (λ (z : e ≡ c).
-            let p : block.held_entry_place k c 0 + a ≡ block.held_entry_place k c a = omega arith in
-            rw (z, get_or-set_same l (cost_row k c) row [] (omega arith)) (t.each a f ∙ ap (walled b) p))
-            (λ (z : e < c). rw (get_or-set_other l (cost_row k c) (cost_row k e) row [] (λ y. omega arith)) (u.1 e a z f))
+            (λ (z : d ≡ e). rw (z, get_or-set_same l (cost_row k e) row [] (omega arith)) (t.each a f))
+            (λ (z : d < e). rw (get_or-set_other l (cost_row k e) (cost_row k d) row [] (λ y. omega arith)) (u.1 d a z f))
             (eq-or-lt_of_le (omega arith))),
       )
 
-  -- a pair more, all of whose rows are laid
-  pub costs_more : (k d : ℕ) (l : List (List ℕ)) → d ≡ size b (first b k) → CostsLaid (shape_of b) (walled_costs b) k l × RowsLaid (walled_costs b) k d l
-      → CostsLaid (shape_of b) (walled_costs b) (k + 1) l
-  costs_more k d l e u i r =
-      ⊎_elim (λ (z : i ≡ k). rw (z, ← e) u.1) (λ (z : i < k). u.0 i z) (eq-or-lt_of_le (omega arith))
+-- a pair more, all of whose rows are laid
+pub costs_more : (s : Shape) (c : Costs) (k d : ℕ) (l : List (List ℕ)) → d ≡ s.size (s.first k) → CostsLaid s c k l × RowsLaid c k d l → CostsLaid s c (k + 1) l
+costs_more s c k d l e u i r =
+    ⊎_elim (λ (z : i ≡ k). rw (z, ← e) u.1) (λ (z : i < k). u.0 i z) (eq-or-lt_of_le (omega arith))
+
+-- a row of a pair, and a column of one that is turned over
+module _ (l : Listing) (k c : ℕ) {row : List ℕ} where
+  pub straight_row : turned (nth l.ordered.order) (shape_of (numbers_of l)) (nth l.list k) ≡ false → Sums (λ a. walled (numbers_of l) (block.held_entry_place (nth l.list k) c 0 + a)) row
+      → Sums ((costs_in l).pair k c) row
+  unfolding walled_costs
+  straight_row e r =
+      let j = nth l.list k in
+      record {
+        whole = r.whole;
+        each = λ a h.
+            let z : block.held_entry_place j c 0 + a ≡ block.held_entry_place j c a = omega arith in
+            r.each a h ∙ ap (walled (numbers_of l)) z ∙ rw e;
+      }
+
+  pub turned_row : turned (nth l.ordered.order) (shape_of (numbers_of l)) (nth l.list k) ≡ true → Sums (λ a. walled (numbers_of l) (block.held_entry_place (nth l.list k) 0 c + max_choices * a)) row
+      → Sums ((costs_in l).pair k c) row
+  unfolding walled_costs
+  turned_row e r =
+      let j = nth l.list k in
+      record {
+        whole = r.whole;
+        each = λ a h.
+            let z : block.held_entry_place j 0 c + max_choices * a ≡ block.held_entry_place j a c = omega arith in
+            r.each a h ∙ ap (walled (numbers_of l)) z ∙ rw e;
+      }
 
 -- ---- the rows
 
@@ -119,15 +142,6 @@ linked_more {s} o m k {l} q u =
 
 -- ---- the first pairs
 
--- the pairs' first trains ascend
-pub firsts_ascend : {b : List ℤ} → Study b → (k l : ℕ) → k ≤ l → l < pairs b → first b k ≤ first b l
-firsts_ascend {b} s k l h q =
-    ⊎_elim
-    (λ (e : k ≡ l). rw e (omega arith))
-    (λ (g : k < l).
-    let d : k + ((l - (k + 1)) + 1) ≡ l = omega arith in
-    ⊎_elim
-    (λ (w : first b k < first b l). omega arith)
-    (λ (w : (first b k ≡ first b l) × (second b k < second b l)). omega arith)
-    (rw d at (pairs_ascend s k (l - (k + 1)) (omega arith))).is)
-    (eq-or-lt_of_le h)
+-- the places of the earlier trains ascend
+pub listing_ascends : (l : Listing) (k j : ℕ) → k ≤ j → j < (shape_in l).pairs → (shape_in l).first k ≤ (shape_in l).first j
+listing_ascends l = listed_ascends (ordered_shape (nth l.ordered.order) (shape_of (numbers_of l))) l.sorted

@@ -2,5 +2,6 @@
 pub mod Walled
 pub mod Limits
 pub mod Written
+pub mod Placing
 pub mod Laying
 pub mod Rows

@@ -2,5 +2,7 @@
 #![tactic(auto)]
 
 mod links;
+pub mod listing;
+pub mod ordered_study;
 pub mod sums;
 pub mod table;

@@ -1,15 +1,15 @@
 // Which pairs a train begins, and in which row of sums a train's choices are summed so far.
 ghost use Rattle.std.specs.Prelude.{◌≡◌, ℕ, ◌+◌, ◌≤◌, ◌<◌, get_or};
-ghost use Rattle.tables.specs.Block.{max_trains, max_pairs, trains, pairs, first, second};
-ghost use Rattle.tables.specs.Plans.{shape_of};
+ghost use Rattle.tables.specs.Block.{trains, pairs};
+ghost use Rattle.rows.specs.Listing.{numbers_of, shape_in};
 ghost use Rattle.rows.specs.Links.{Begin};
 ghost use Rattle.rows.specs.Table.{Unlinked, linked_pair, Linked};
 
+use crate::listing::Listing;
 use crate::sums;
 use std::array;
 use tables::block;
-use tables::block::{Block, Places};
-use tables::held_study::HeldStudy;
+use tables::block::Block;
 
 // The row in which each train's choices are summed so far, and the row to which the costs of each pair that is linked are added.
 pub struct Links {
@@ -28,53 +28,54 @@ impl Links {
         }
     }
 
-    // Links pair k: its costs are added to the last row so far of its second train, and its own row is now the last.
-    fn link(&mut self, b: &Places, k: usize)
-        requires { (k < max_pairs) × (second b.now k < max_trains) }
-        ensures { self.new ≡ linked_pair (shape_of b.now) k self.old }
+    // Links pair k of the list: its costs are added to the last row so far of its later train, and its own row is now the last.
+    #[tactic(auto, using(tables::proofs::Study::pairs_range, tables::proofs::Study::trains_range))]
+    fn link(&mut self, listing: &Listing<'_>, k: usize)
+        requires { k < pairs (numbers_of listing.now) }
+        ensures { self.new ≡ linked_pair (shape_in listing.now) k self.old }
     {
-        let j = block::second(b, k);
+        let j = listing.later(k);
         self.bases[k] = self.ends[j];
         self.ends[j] = sums::PAIR_ROWS_FROM + k;
     }
 }
 
 // The rows with every pair linked.
-#[tactic(auto, using(tables::proofs::Study::pairs_range, tables::proofs::Study::second_high))]
-pub fn rows(study: HeldStudy<'_>) -> Links
-    ensures { Linked (shape_of study.entry.numbers.now) (pairs study.entry.numbers.now) result }
+#[tactic(auto, using(tables::proofs::Study::pairs_range))]
+pub fn rows(listing: &Listing<'_>) -> Links
+    ensures { Linked (shape_in listing.now) (pairs (numbers_of listing.now)) result }
 {
     let mut links = Links::none();
-    for k in 0..block::pairs(study.numbers) {
-        links.link(study.numbers, k);
+    for k in 0..block::pairs(listing.ordered.study.numbers) {
+        links.link(listing, k);
     }
     links
 }
 
-// The first pair whose first train is t or later, or m; the pairs before k begin earlier.
-#[tactic(auto, using(tables::proofs::Study::pairs_range, crate::proofs::Laying::firsts_ascend))]
-fn begin(study: HeldStudy<'_>, t: usize, k: usize) -> usize
-    requires { (k ≤ pairs study.numbers.now) × ((i : ℕ) → i < k → first study.numbers.now i < t) }
-    ensures { Begin (shape_of study.entry.numbers.now) t result }
+// The first pair of the list whose earlier train is at place t or later, or m; the pairs before k begin earlier.
+#[tactic(auto, using(tables::proofs::Study::pairs_range, crate::proofs::Laying::listing_ascends))]
+fn begin(listing: &Listing<'_>, t: usize, k: usize) -> usize
+    requires { (k ≤ pairs (numbers_of listing.now)) × ((i : ℕ) → i < k → (shape_in listing.now).first i < t) }
+    ensures { Begin (shape_in listing.now) t result }
 {
-    let m = block::pairs(study.numbers);
+    let m = block::pairs(listing.ordered.study.numbers);
     for l in k..m {
-        if t <= block::first(study.numbers, l) {
+        if t <= listing.earlier(l) {
             return l;
         }
     }
     m
 }
 
-// Each train's first pair, and behind them the end of the last train's.
+// The first pair of each place, and behind them the end of the last one's.
 #[tactic(auto, using(tables::proofs::Study::trains_range))]
-pub fn begins(study: HeldStudy<'_>) -> [usize; Block::TRAINS + 1]
-    ensures { (t : ℕ) → t < trains study.entry.numbers.now + 1 → Begin (shape_of study.entry.numbers.now) t (get_or result t 0) }
+pub fn begins(listing: &Listing<'_>) -> [usize; Block::TRAINS + 1]
+    ensures { (t : ℕ) → t < trains (numbers_of listing.now) + 1 → Begin (shape_in listing.now) t (get_or result t 0) }
 {
     let mut begins = [0; Block::TRAINS + 1];
     let mut k = 0;
-    for t in 0..block::trains(study.numbers) + 1 {
-        k = begin(study, t, k);
+    for t in 0..block::trains(listing.ordered.study.numbers) + 1 {
+        k = begin(listing, t, k);
         begins[t] = k;
     }
     begins

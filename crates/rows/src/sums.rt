@@ -2,18 +2,17 @@
 ghost use Rattle.std.specs.Prelude.{ℕ, ◌+◌, ◌<◌, ◌^◌, get_or};
 ghost use Rattle.units.specs.Units.{number_of_parts};
 ghost use Rattle.tables.specs.Block.{max_choices};
-ghost use Rattle.tables.specs.Plans.{shape_of};
-ghost use Rattle.rows.specs.Walled.{walled_costs};
+ghost use Rattle.rows.specs.Listing.{shape_in, costs_in};
 ghost use Rattle.rows.specs.Sums.{Carry, CarriedTo, Sums};
 ghost use Rattle.rows.specs.Links.{row_count};
 ghost use Rattle.rows.specs.Table.{sum_at, Owned};
 
+use crate::listing::Listing;
 use crate::table;
 use crate::table::Table;
 use std::array;
 use tables::block;
 use tables::block::Block;
-use tables::held_study::HeldStudy;
 use units::Parts;
 
 // Where the pairs' rows begin; the trains' own stand before them.
@@ -27,14 +26,15 @@ pub type ByChoice = [u64; Block::CHOICES];
 // The rows of sums.
 pub type Rows = [ByChoice; ROWS];
 
-// Lays the trains' own rows. They are laid in place, as the costs of a table are.
-#[tactic(auto, using(tables::proofs::Study::trains_range))]
-pub fn lay_own(study: HeldStudy<'_>, rows: &mut Rows)
-    ensures { Owned (shape_of study.entry.numbers.now) (walled_costs study.entry.numbers.now) rows.new }
+// Lays the trains' own rows, in their order. They are laid in place, as the costs of a table are.
+#[tactic(auto, using(tables::proofs::Study::trains_range, crate::proofs::Placing::train_below))]
+pub fn lay_own(listing: &Listing<'_>, rows: &mut Rows)
+    ensures { Owned (shape_in listing.now) (costs_in listing.now) rows.new }
 {
-    for j in 0..block::trains(study.numbers) {
-        let from = block::choice_place(Block::HELD_CHOICES_FROM, j, 0);
-        rows[j] = table::walled_row(study.numbers, from);
+    let b = listing.ordered.study.numbers;
+    for d in 0..block::trains(b) {
+        let from = block::choice_place(Block::HELD_CHOICES_FROM, listing.ordered.order[d], 0);
+        rows[d] = table::walled_row(b, from);
     }
 }
 

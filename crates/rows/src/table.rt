@@ -1,18 +1,18 @@
-// The table of a search: what the walk reads of a study.
-ghost use Rattle.std.specs.Prelude.{◌≡◌, ◌+◌, ◌≤◌, ◌<◌, ℕ, get_or};
-ghost use Rattle.tables.specs.Block.{block_length, max_trains, max_choices, scale, pairs, size};
-ghost use Rattle.tables.specs.Plans.{shape_of};
+// The table of a search: what the walk reads of a study, its trains by the places at which they are tried, and its pairs as they are listed.
+ghost use Rattle.std.specs.Prelude.{◌≡◌, ◌+◌, ◌*◌, ◌≤◌, ◌<◌, ℕ, get_or};
+ghost use Rattle.tables.specs.Block.{block_length, max_choices, trains, scale, pairs};
 ghost use Rattle.bounds.specs.Bounds.{bound_of};
-ghost use Rattle.rows.specs.Walled.{walled, walled_costs};
+ghost use Rattle.rows.specs.Walled.{walled};
+ghost use Rattle.rows.specs.Listing.{numbers_of, shape_in, costs_in};
 ghost use Rattle.rows.specs.Table.{CostsLaid, Laid};
 ghost use Rattle.rows.specs.Sums.{Sums};
 
 use crate::links;
 use crate::links::Links;
+use crate::listing::Listing;
 use crate::sums::ByChoice;
 use std::array;
 use tables::block::{Block, Places};
-use tables::held_study::HeldStudy;
 use tables::{block, places};
 use units::{Points, Scale};
 
@@ -20,7 +20,7 @@ use units::{Points, Scale};
 // A number and no Option: one comparison in the walk then drops a try with a forbidden entry, whether a plan is known or not, and one that is no better than the best.
 pub const WALL: u64 = 1 << 50;
 
-// The costs of the pairs: of each pair a row for each choice of its first train.
+// The costs of the pairs: of each pair a row for each choice of its earlier train.
 pub type Costs = [ByChoice; Block::CHOICES * Block::PAIRS];
 
 // What the walk reads of a study, each figure in a field of its own.
@@ -28,13 +28,13 @@ pub type Costs = [ByChoice; Block::CHOICES * Block::PAIRS];
 pub struct Table<'a> {
     // The costs of the pairs. They are lent, since so long an array is copied where a struct that holds it is returned.
     pub costs: &'a Costs,
-    // How many choices each train has.
+    // How many choices the train at each place has.
     pub sizes: [usize; Block::TRAINS],
     // The row of sums in which each train's choices are summed when it is opened.
     pub ends: [usize; Block::TRAINS],
     // The row of sums to which each pair's costs are added.
     pub bases: [usize; Block::PAIRS],
-    // The first pair of each train, and behind them the end of the last train's.
+    // The first pair of each place, and behind them the end of the last one's.
     pub begins: [usize; Block::TRAINS + 1],
     // n.
     pub trains: usize,
@@ -45,20 +45,21 @@ pub struct Table<'a> {
 }
 
 impl<'a> Table<'a> {
-    // The table of a study whose costs are laid.
+    // The table of a listing whose costs are laid.
     #[tactic(auto, using(tables::proofs::Study::scale_range))]
-    pub fn new(study: HeldStudy<'_>, costs: &'a Costs) -> Table<'a>
-        requires { CostsLaid (shape_of study.numbers.now) (walled_costs study.numbers.now) (pairs study.numbers.now) costs.now }
-        ensures { Laid (shape_of study.entry.numbers.now) (walled_costs study.entry.numbers.now) (scale study.entry.numbers.now) (bound_of study.entry.numbers.now) result }
+    pub fn new(listing: &Listing<'_>, costs: &'a Costs) -> Table<'a>
+        requires { CostsLaid (shape_in listing.now) (costs_in listing.now) (pairs (numbers_of listing.now)) costs.now }
+        ensures { Laid (shape_in listing.now) (costs_in listing.now) (scale (numbers_of listing.now)) (bound_of (numbers_of listing.now)) result }
     {
+        let study = listing.ordered.study;
         let b = study.numbers;
-        let Links { ends, bases } = links::rows(study);
+        let Links { ends, bases } = links::rows(listing);
         Table {
             costs,
-            sizes: sizes(study),
+            sizes: sizes(listing),
             ends,
             bases,
-            begins: links::begins(study),
+            begins: links::begins(listing),
             trains: block::trains(b),
             scale: block::scale(b),
             bound: bounds::published(study),
@@ -66,12 +67,12 @@ impl<'a> Table<'a> {
     }
 }
 
-// Lays the costs of the pairs. They are laid in place, since so long an array is copied where it is returned.
-pub fn lay_costs(study: HeldStudy<'_>, costs: &mut Costs)
-    ensures { CostsLaid (shape_of study.entry.numbers.now) (walled_costs study.entry.numbers.now) (pairs study.entry.numbers.now) costs.new }
+// Lays the costs of the pairs, as they stand in the list. They are laid in place, since so long an array is copied where it is returned.
+pub fn lay_costs(listing: &Listing<'_>, costs: &mut Costs)
+    ensures { CostsLaid (shape_in listing.now) (costs_in listing.now) (pairs (numbers_of listing.now)) costs.new }
 {
-    for k in 0..block::pairs(study.numbers) {
-        lay_pair(study, k, costs);
+    for k in 0..block::pairs(listing.ordered.study.numbers) {
+        lay_pair(listing, k, costs);
     }
 }
 
@@ -96,21 +97,48 @@ pub(crate) fn walled_row(b: &Places, from: usize) -> ByChoice
     array::from_fn(|a| walled(b, from + a))
 }
 
-// Lays the costs of pair k: the rows that are used, one for each choice of its first train.
-#[tactic(auto, using(tables::proofs::Study::pairs_range, tables::proofs::Counting::rows_range))]
-fn lay_pair(study: HeldStudy<'_>, k: usize, costs: &mut Costs)
-    requires { (k < pairs study.numbers.now) × CostsLaid (shape_of study.numbers.now) (walled_costs study.numbers.now) k costs.old }
-    ensures { CostsLaid (shape_of study.entry.numbers.now) (walled_costs study.entry.numbers.now) (k + 1) costs.new }
+// A column of a pair so: eight numbers of the block, each eighth from place `from` on.
+fn walled_column(b: &Places, from: usize) -> ByChoice
+    requires { from + 7 * max_choices < block_length }
+    ensures { Sums (λ a. walled b.now (from + max_choices * a)) result }
 {
-    for c in 0..counts::rows_of(study, k) {
-        let from = block::entry_place(Block::HELD_ENTRIES_FROM, k, c, 0);
-        costs[Block::CHOICES * k + c] = walled_row(study.numbers, from);
+    array::from_fn(|a| walled(b, from + Block::CHOICES * a))
+}
+
+// The costs of pair k of the list at choice c of its earlier train: a row of the pair, and a column where it is turned over.
+#[tactic(auto, using(tables::proofs::Study::pairs_range, crate::proofs::Placing::list_below))]
+fn cost_row(listing: &Listing<'_>, k: usize, c: usize) -> ByChoice
+    requires { (k < pairs (numbers_of listing.now)) × (c < max_choices) }
+    ensures { Sums ((costs_in listing.now).pair k c) result }
+{
+    let b = listing.ordered.study.numbers;
+    let pair = listing.list[k];
+    if listing.ordered.is_turned(pair) {
+        walled_column(b, block::entry_place(Block::HELD_ENTRIES_FROM, pair, 0, c))
+    } else {
+        walled_row(b, block::entry_place(Block::HELD_ENTRIES_FROM, pair, c, 0))
     }
 }
 
-// How many choices each train has.
-fn sizes(study: HeldStudy<'_>) -> [usize; Block::TRAINS]
-    ensures { (t : ℕ) → t < max_trains → get_or result t 0 ≡ size study.entry.numbers.now t }
+// Lays the costs of pair k of the list: the rows that are used, one for each choice of its earlier train.
+#[tactic(auto, using(tables::proofs::Study::pairs_range, crate::proofs::Limits::listing_few))]
+fn lay_pair(listing: &Listing<'_>, k: usize, costs: &mut Costs)
+    requires { (k < pairs (numbers_of listing.now)) × CostsLaid (shape_in listing.now) (costs_in listing.now) k costs.old }
+    ensures { CostsLaid (shape_in listing.now) (costs_in listing.now) (k + 1) costs.new }
 {
-    array::from_fn(|t| block::size(study.numbers, t))
+    for c in 0..listing.ordered.size(listing.earlier(k)) {
+        costs[Block::CHOICES * k + c] = cost_row(listing, k, c);
+    }
+}
+
+// How many choices the train at each place has.
+#[tactic(auto, using(tables::proofs::Study::trains_range))]
+fn sizes(listing: &Listing<'_>) -> [usize; Block::TRAINS]
+    ensures { (d : ℕ) → d < trains (numbers_of listing.now) → get_or result d 0 ≡ (shape_in listing.now).size d }
+{
+    let mut sizes = [0; Block::TRAINS];
+    for d in 0..block::trains(listing.ordered.study.numbers) {
+        sizes[d] = listing.ordered.size(d);
+    }
+    sizes
 }

@@ -10,6 +10,7 @@ use borrow.Author.Tests.{lt-ltb, le-ltb, le-leb, leb-false, lt-leb, eq-eqb, ne_e
 use Rattle.units.specs.Units.{the_parts}
 use Rattle.tables.specs.Block.{max_choices}
 use Rattle.tables.specs.Plans.{Shape, Costs, choices_of}
+use Rattle.orders.specs.Ordered.{by_train}
 use Rattle.rows.specs.Walled.{wall}
 use Rattle.rows.specs.Sums.{Steady, Carrying, Sums}
 use Rattle.rows.specs.declared.table.Table.{Table}
@@ -22,6 +23,7 @@ use Rattle.search.specs.declared.walk.Search.{Search}
 use Rattle.search.specs.Walk.{Walk, Decided, counted, whole_plan, stopped, dropped, no_choices, nothing_tried}
 use Rattle.search.specs.Sought.{Sought, Searchable, meets_at}
 use Rattle.search.specs.Held.{left_of, walk_of, meets_by, best_by, handed_on, Going, Later, Alike, At, Trying, comes_to, try_of, choices_from}
+use Rattle.search.specs.Ordered.{walk_by_train}
 use Rattle.search.specs.Start.{no_best}
 use Rattle.search.proofs.Totals.{decided_start}
 use Rattle.search.proofs.Room.{comes_low}
@@ -140,6 +142,12 @@ module _ (s : Sought) (budget t a total left : ℕ) (best : Best) (chosen : List
 pub held_start : (budget : ℕ) → walk_of budget (budget + 1) no_best ≡ nothing_tried
 unfolding walk_of
 held_start budget = same_walk no_choices (omega arith) (ne_eqb (budget + 1 + 0) 0 (λ e. omega arith)) refl refl refl
+
+-- the plan by trains
+pub held_by_train : (budget left : ℕ) (best : Best) (n : ℕ) (order : ℕ → ℕ) {plan : List ℕ} → plan ≡ by_train n order best.plan
+    → walk_of budget left (record { to_beat = best.to_beat; left_then = best.left_then; plan = plan }) ≡ walk_by_train n order (walk_of budget left best)
+unfolding walk_of
+held_by_train budget left best n order e = rw e
 
 -- ---- where a try stands
 

@@ -9,23 +9,25 @@ use native.Mathlib.Omega.{arith}
 use lib.Dec.{eqb}
 use lib.IntN.{ℤ}
 use lib.ListN.{set}
+use Rattle.theory.specs.Order.{IsOrder, rank}
 use Rattle.theory.proofs.Range.{not_both}
 use Rattle.units.specs.declared.Parts.{Parts}
-use Rattle.tables.specs.Block.{scale}
+use Rattle.tables.specs.Block.{trains, scale}
 use Rattle.tables.specs.WellFormed.{Study}
-use Rattle.tables.specs.Plans.{Shape, Costs, IsPlan, choices_of, total, shape_of, held_costs, held_total}
+use Rattle.tables.specs.Plans.{Shape, Costs, IsPlan, choices_of, total, shape_of, held_total}
 use Rattle.tables.proofs.Study.{scale_range}
 use Rattle.bounds.specs.Bounds.{bound_of}
+use Rattle.orders.specs.Ordered.{ordered_shape, by_train}
 use Rattle.rows.specs.Limits.{Walkable}
-use Rattle.rows.proofs.Limits.{study_walkable}
-use Rattle.search.specs.Walk.{Walk, barred, added, Decided, counted, marked_spent, whole_plan, stopped, pick_walk, beaten, dropped, counted_try, one_try, tried_from, choice_try, opened_train, nothing_tried, walked, never, at_bound, searched}
+use Rattle.search.specs.Walk.{Walk, barred, added, Decided, counted, marked_spent, whole_plan, stopped, pick_walk, beaten, dropped, counted_try, one_try, tried_from, choice_try, opened_train, nothing_tried, walked, never, at_bound}
+use Rattle.search.specs.Ordered.{walk_by_train, walked_in, searched_in, searched_on_in, searched}
 use Rattle.search.specs.Stops.{MeetsLeast, the_total, Sooner, searched_on}
 use Rattle.search.proofs.Barred.{permitted_plan}
 use Rattle.search.proofs.Totals.{decided_start, decided_next, partial_whole}
 use Rattle.search.proofs.Tries.{neither, goes_unmet, Kept, choice_keeps}
 use Rattle.search.proofs.Best.{below_best}
 use Rattle.search.proofs.Bounds.{parts_meet}
-use Rattle.search.proofs.Theorems.{met_bound}
+use Rattle.search.proofs.Theorems.{met_bound, place_costs, place_walkable, by_rank, order_is}
 
 -- v met the bound with a plan that none is below; u knows the same, after no fewer tries
 pub record Past (s : Shape) (c : Costs) (v u : Walk) : Type 0 where
@@ -170,9 +172,24 @@ module _ {s : Shape} (o : Walkable s) (c : Costs) (meets : ℕ → Bool) (right 
             equal = λ f. absurd (not_both k.met f);
           }
 
+-- so it is with the plan by trains
+sooner_by_train : (n : ℕ) (order : ℕ → ℕ) {v u : Walk} → Sooner v u → Sooner (walk_by_train n order v) (walk_by_train n order u)
+sooner_by_train n order e =
+    record { found = e.found; best = e.best; plan = ap (by_train n order) e.plan; tries = e.tries; ends = e.ends; equal = λ f. ap (walk_by_train n order) (e.equal f) }
+
+-- the search of a block whose totals are whole points, and whose bound exceeds no plan's cost, with its trains in an order
+pub ordered_sooner : {b : List ℤ} → Study b → {order : ℕ → ℕ} → IsOrder (trains b) order → (cost : (ℕ → ℕ) → ℕ)
+    → ((x : ℕ → ℕ) → IsPlan (shape_of b) x → (held_total b x ≡ scale b * cost x) × (bound_of b ≤ cost x)) → (budget : ℕ)
+    → Sooner (searched_in order b budget) (searched_on_in order b budget)
+unfolding walked_in searched_in searched_on_in
+ordered_sooner {b} s {order} is cost low budget =
+    sooner_by_train (trains b) order
+    (stopping_keeps (place_walkable s is) (place_costs order b) (at_bound b)
+    (parts_meet (ordered_shape order (shape_of b)) (place_costs order b) (scale b) (scale_range s).0 (bound_of b) (λ y. cost (λ i. y (rank (trains b) order i))) (λ y p. let r = by_rank s is y p in let k = low _ r.0 in (r.1 ∙ k.0, k.1)))
+    budget)
+
 -- the search of a block whose totals are whole points, and whose bound exceeds no plan's cost
 pub search_sooner : {b : List ℤ} → Study b → (cost : (ℕ → ℕ) → ℕ) → ((x : ℕ → ℕ) → IsPlan (shape_of b) x → (held_total b x ≡ scale b * cost x) × (bound_of b ≤ cost x)) → (budget : ℕ)
     → Sooner (searched b budget) (searched_on b budget)
 unfolding searched searched_on
-search_sooner {b} s cost low budget =
-    stopping_keeps (study_walkable s) (held_costs b) (at_bound b) (parts_meet (shape_of b) (held_costs b) (scale b) (scale_range s).0 (bound_of b) cost low) budget
+search_sooner {b} s cost low budget = ordered_sooner s (order_is s) cost low budget

@@ -1,10 +1,15 @@
--- What a walk in the code goes over, and within which limits. Only `sought_in` knows a block.
-use Rattle.std.specs.Prelude.{◌≡◌, Bool, cond, List, ℕ, ◌<◌, eqb, ℤ}
+-- What a walk in the code goes over, and within which limits. Only `sought_in` knows a study.
+use Rattle.std.specs.Prelude.{◌≡◌, Bool, cond, ℕ, ◌<◌, eqb}
+use Rattle.theory.specs.Lists.{nth}
 use Rattle.units.specs.Units.{rounded_up}
 use Rattle.tables.specs.Block.{max_parts, scale}
 use Rattle.tables.specs.Plans.{Shape, Costs, shape_of, held_costs}
 use Rattle.bounds.specs.Bounds.{bound_of}
-use Rattle.rows.specs.Walled.{wall, walled_costs}
+use Rattle.orders.specs.Ordered.{ordered_costs}
+use Rattle.orders.specs.Listed.{renumbered_costs}
+use Rattle.rows.specs.declared.listing.Listing.{Listing}
+use Rattle.rows.specs.Listing.{numbers_of, shape_in, costs_in}
+use Rattle.rows.specs.Walled.{wall}
 use Rattle.rows.specs.Limits.{Walkable, Limited}
 
 -- a shape with its costs, the same costs with a wall for each forbidden entry, and the scale and the bound by which a plan's total ends the walk
@@ -31,6 +36,13 @@ pub record Searchable (p : Sought) : Type 0 where
   pub high : Limited p.shape p.walls wall
   pub walled : Walled p.shape p.costs p.walls
 
--- what a search of a block goes over
-abbrev pub sought_in : List ℤ → Sought
-sought_in b = record { shape = shape_of b; costs = held_costs b; walls = walled_costs b; scale = scale b; bound = bound_of b }
+-- what a search of a listing goes over
+abbrev pub sought_in : Listing → Sought
+sought_in l =
+    record {
+      shape = shape_in l;
+      costs = renumbered_costs (nth l.list) (ordered_costs (nth l.ordered.order) (shape_of (numbers_of l)) (held_costs (numbers_of l)));
+      walls = costs_in l;
+      scale = scale (numbers_of l);
+      bound = bound_of (numbers_of l);
+    }

@@ -1,7 +1,9 @@
 -- Document 02, change 6: when a test of totals may end a walk, and what a walk keeps that it ends.
 use Rattle.std.specs.Prelude.{◌≡◌, Bool, true, false, List, ℕ, ◌≤◌, ℤ}
-use Rattle.tables.specs.Plans.{Shape, Costs, IsPlan, total, shape_of, held_costs}
-use Rattle.search.specs.Walk.{Walk, never, walked}
+use Rattle.tables.specs.Block.{order}
+use Rattle.tables.specs.Plans.{Shape, Costs, IsPlan, total}
+use Rattle.search.specs.Walk.{Walk}
+use Rattle.search.specs.Ordered.{searched_on_in}
 
 -- no plan costs less than one whose total meets: `cost` says what a total costs (in points, say, rounded up), and never falls
 pub record MeetsLeast (s : Shape) (c : Costs) (cost : ℕ → ℕ) (meets : ℕ → Bool) : Type 0 where
@@ -24,4 +26,4 @@ pub record Sooner (v u : Walk) : Type 0 where
 
 -- the search of a block that no bound ends, as document 01 has it
 unfoldable pub searched_on : List ℤ → ℕ → Walk
-searched_on b budget = walked (shape_of b) (held_costs b) never budget
+searched_on b budget = searched_on_in (order b) b budget

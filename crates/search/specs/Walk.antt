@@ -7,7 +7,7 @@ use Rattle.theory.specs.Range.{all}
 use Rattle.units.specs.declared.Parts.{Parts}
 use Rattle.units.specs.Units.{the_parts, number_of_parts, rounded_up}
 use Rattle.tables.specs.Block.{max_trains, scale}
-use Rattle.tables.specs.Plans.{choices_of, Shape, Costs, shape_of, held_costs}
+use Rattle.tables.specs.Plans.{choices_of, Shape, Costs}
 use Rattle.bounds.specs.Bounds.{bound_of}
 
 -- ---- what a walk comes to
@@ -148,7 +148,3 @@ all_tries s = tries_from s.size s.trains 0
 -- a total's 'cost equals the published bound': both in points
 abbrev pub at_bound : List ℤ → ℕ → Bool
 at_bound b total = eqb (rounded_up (scale b) total) (bound_of b)
-
--- a search walks over the shape that the block holds, by T and c0, and ends at its bound
-unfoldable pub searched : List ℤ → ℕ → Walk
-searched b budget = walked (shape_of b) (held_costs b) (at_bound b) budget

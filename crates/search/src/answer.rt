@@ -1,13 +1,19 @@
 // Document 01, 'Replies', Search: the whole search, and what it answers.
 ghost use Rattle.std.specs.Prelude.{◌≡◌, ℕ, ◌+◌, ◌≤◌, ◌<◌, ◌^◌};
 ghost use Rattle.units.specs.Units.{number_of_parts, in_points};
+ghost use Rattle.theory.specs.Lists.{nth};
+ghost use Rattle.theory.specs.Order.{IsOrder};
+ghost use Rattle.tables.specs.Block.{trains};
 ghost use Rattle.tables.specs.LineLimits.{max_budget};
 ghost use Rattle.search.specs.Held.{left_of, walk_of};
-ghost use Rattle.search.specs.Answer.{best_shown, shown, search_answer};
+ghost use Rattle.search.specs.Answer.{best_shown, shown, search_answer, answer_in};
 
 use crate::walk::{Best, Search};
+use rows::listing::Listing;
+use rows::ordered_study::Order;
 use rows::table::Table;
 use rows::{sums, table};
+use std::array;
 use tables::block;
 use tables::block::Block;
 use tables::held_study::HeldStudy;
@@ -67,17 +73,32 @@ fn answer_of(s: Scale, budget: u64, left: u64, best: &Best) -> Found
     }
 }
 
-// The best plan that the budget lets the walk find.
+// The best plan that the budget lets the walk find, with the trains in this order.
+pub fn search_in(study: HeldStudy<'_>, order: &Order, budget: u64) -> Found
+    requires each_once { IsOrder (trains study.numbers.now) (nth order.now) }
+    requires in_range { budget ≤ max_budget }
+    ensures { result ≡ answer_in (nth order.now) study.entry.numbers.now budget }
+{
+    let listing = &Listing::new(study, order);
+    let mut costs = [[0; Block::CHOICES]; Block::CHOICES * Block::PAIRS];
+    table::lay_costs(listing, &mut costs);
+    // A reference, since a walk over a local table that lends its costs has no proof.
+    let table = &Table::new(listing, &costs);
+    let mut walk = Search::new(table);
+    sums::lay_own(listing, &mut walk.sums);
+    let left = walk.open_train(0, block::constant(study.numbers), budget + 1);
+    let best = Best {
+        plan: listing.ordered.by_train(&walk.best.plan),
+        ..walk.best
+    };
+    answer_of(table.scale, budget, left, &best)
+}
+
+// The best plan that the budget lets the walk find, with the trains in the block's order.
 pub fn search(study: HeldStudy<'_>, budget: u64) -> Found
     requires { budget ≤ max_budget }
     ensures { result ≡ search_answer study.entry.numbers.now budget }
 {
-    let mut costs = [[0; Block::CHOICES]; Block::CHOICES * Block::PAIRS];
-    table::lay_costs(study, &mut costs);
-    // A reference, since a walk over a local table that lends its costs has no proof.
-    let table = &Table::new(study, &costs);
-    let mut walk = Search::new(table);
-    sums::lay_own(study, &mut walk.sums);
-    let left = walk.open_train(0, block::constant(study.numbers), budget + 1);
-    answer_of(table.scale, budget, left, &walk.best)
+    let order = array::from_fn(|d| block::order(study.numbers, d));
+    search_in(study, &order, budget)
 }

@@ -2,7 +2,7 @@
 use mathlib.Core.Path.{◌≡◌}
 use Prim.Native.Nat.{ℕ, ◌+◌, ◌*◌, ◌<◌, ◌≤◌}
 use native.Mathlib.Omega.{arith}
-use Rattle.tables.specs.Block.{max_trains, max_choices, max_pairs, entries_of_pair, constant_place, loaded_choices_from, held_choices_from, loaded_entries_from, held_entries_from, choice_place, entry_place}
+use Rattle.tables.specs.Block.{max_trains, max_choices, max_pairs, entries_of_pair, constant_place, loaded_choices_from, held_choices_from, loaded_entries_from, held_entries_from, order_from, choice_place, entry_place}
 
 -- two choices at one place of a table are the same choice of the same train
 pub choice_place_same : (from i a j c : ℕ) → a < max_choices → c < max_choices → choice_place from i a ≡ choice_place from j c → (i ≡ j) × (a ≡ c)
@@ -22,8 +22,9 @@ pub entry_place_in : (from k a c : ℕ) → k < max_pairs → a < max_choices �
     → (from ≤ entry_place from k a c) × (entry_place from k a c < from + max_pairs * entries_of_pair)
 entry_place_in from k a c h p q = omega arith
 
--- the constant and the four tables follow one another, with no place in common
+-- the constant, the four tables and the order follow one another, with no place in common
 pub tables_apart : (constant_place < loaded_choices_from)
     × ((loaded_choices_from + max_trains * max_choices ≤ held_choices_from)
-    × ((held_choices_from + max_trains * max_choices ≤ loaded_entries_from) × (loaded_entries_from + max_pairs * entries_of_pair ≤ held_entries_from)))
+    × ((held_choices_from + max_trains * max_choices ≤ loaded_entries_from)
+    × ((loaded_entries_from + max_pairs * entries_of_pair ≤ held_entries_from) × (held_entries_from + max_pairs * entries_of_pair ≤ order_from))))
 tables_apart = omega arith

@@ -3,6 +3,7 @@ pub mod Signed
 pub mod Limits
 pub mod Mates
 pub mod Rows
+pub mod Order
 pub mod Study
 pub mod Apart
 pub mod Plans

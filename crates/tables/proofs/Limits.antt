@@ -10,8 +10,8 @@ use borrow.Author.Tests.{lt-ltb, le-ltb, le-leb, leb-true, eqb-true}
 use Rattle.theory.proofs.Range.{both_true, not_both}
 use Rattle.units.specs.Units.{scale_min, scale_max}
 use Rattle.tables.specs.declared.place_limits.Limits.{Limits}
-use Rattle.tables.specs.Block.{max_trains, max_choices, max_pairs, max_cost, max_parts, trains_place, scale_place, pairs_place, sizes_from, firsts_from, seconds_from, loaded_choices_from, held_choices_from, loaded_entries_from, held_entries_from, entries_of_pair, at, nat, figure, trains, pairs, size, first, second}
-use Rattle.tables.specs.WellFormed.{from_to, cost_to, within, is_open, used_if, choice_used, entry_used, head_limits, shape_limits, cost_limits, limits_at}
+use Rattle.tables.specs.Block.{max_trains, max_choices, max_pairs, max_cost, max_parts, trains_place, scale_place, pairs_place, sizes_from, firsts_from, seconds_from, loaded_choices_from, held_choices_from, loaded_entries_from, held_entries_from, order_from, entries_of_pair, at, nat, figure, trains, pairs, size, first, second}
+use Rattle.tables.specs.WellFormed.{from_to, cost_to, within, is_open, used_if, choice_used, entry_used, head_limits, shape_limits, cost_limits, order_limits, limits_at}
 
 -- ---- within
 
@@ -117,28 +117,35 @@ module _ (b : List ℤ) where
   limits_loaded_choices o h =
       let p = loaded_choices_from + o in
       let e : p - loaded_choices_from ≡ o = omega arith in
-      rw (le-ltb p loaded_choices_from (omega arith), lt-ltb p held_choices_from (omega arith), e)
+      rw (le-ltb p loaded_choices_from (omega arith), lt-ltb p order_from (omega arith), lt-ltb p held_choices_from (omega arith), e)
 
   pub limits-held_choices : (o : ℕ) → o < max_trains * max_choices → limits_at b (held_choices_from + o) ≡ used_if (choice_used b o) (cost_to max_parts)
   unfolding limits_at cost_limits
   limits-held_choices o h =
       let p = held_choices_from + o in
       let e : p - held_choices_from ≡ o = omega arith in
-      rw (le-ltb p loaded_choices_from (omega arith), le-ltb p held_choices_from (omega arith), lt-ltb p loaded_entries_from (omega arith), e)
+      rw (le-ltb p loaded_choices_from (omega arith), lt-ltb p order_from (omega arith), le-ltb p held_choices_from (omega arith), lt-ltb p loaded_entries_from (omega arith), e)
 
   pub limits_loaded_entries : (o : ℕ) → o < max_pairs * entries_of_pair → limits_at b (loaded_entries_from + o) ≡ used_if (entry_used b o) (cost_to max_cost)
   unfolding limits_at cost_limits
   limits_loaded_entries o h =
       let p = loaded_entries_from + o in
       let e : p - loaded_entries_from ≡ o = omega arith in
-      rw (le-ltb p loaded_choices_from (omega arith), le-ltb p held_choices_from (omega arith), le-ltb p loaded_entries_from (omega arith), lt-ltb p held_entries_from (omega arith), e)
+      rw (le-ltb p loaded_choices_from (omega arith), lt-ltb p order_from (omega arith), le-ltb p held_choices_from (omega arith), le-ltb p loaded_entries_from (omega arith), lt-ltb p held_entries_from (omega arith), e)
 
-  pub limits-held_entries : (o : ℕ) → limits_at b (held_entries_from + o) ≡ used_if (entry_used b o) (cost_to max_parts)
+  pub limits-held_entries : (o : ℕ) → o < max_pairs * entries_of_pair → limits_at b (held_entries_from + o) ≡ used_if (entry_used b o) (cost_to max_parts)
   unfolding limits_at cost_limits
-  limits-held_entries o =
+  limits-held_entries o h =
       let p = held_entries_from + o in
       let e : p - held_entries_from ≡ o = omega arith in
-      rw (le-ltb p loaded_choices_from (omega arith), le-ltb p held_choices_from (omega arith), le-ltb p loaded_entries_from (omega arith), le-ltb p held_entries_from (omega arith), e)
+      rw (le-ltb p loaded_choices_from (omega arith), lt-ltb p order_from (omega arith), le-ltb p held_choices_from (omega arith), le-ltb p loaded_entries_from (omega arith), le-ltb p held_entries_from (omega arith), e)
+
+  pub limits_order : (d : ℕ) → limits_at b (order_from + d) ≡ used_if (ltb d (trains b)) (from_to 0 (max_trains - 1))
+  unfolding limits_at order_limits
+  limits_order d =
+      let p = order_from + d in
+      let e : p - order_from ≡ d = omega arith in
+      rw (le-ltb p loaded_choices_from (omega arith), le-ltb p order_from (omega arith), e)
 
 -- the limits of the shape go by n and m alone
 pub shape_limits_lem : (c b : List ℤ) (p : ℕ) → p < loaded_choices_from → trains c ≡ trains b → pairs c ≡ pairs b → limits_at c p ≡ limits_at b p
@@ -155,6 +162,9 @@ neither false p q = q
 
 firm : (low high : ℕ) → Firm (from_to low high)
 firm low high = record { is = refl }
+
+pub used_closable : (t : Bool) (low high : ℕ) → (used_if t (from_to low high)).closable ≡ false
+used_closable t low high = (neither t (firm low high) (firm 0 0)).is
 
 shape_firm : (b : List ℤ) (p : ℕ) → Firm (shape_limits b p)
 unfolding shape_limits head_limits

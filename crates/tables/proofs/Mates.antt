@@ -135,7 +135,7 @@ module _ (b : List ℤ) (w : length b ≡ block_length) (e : places_right b ≡ 
       )))
       (short b loaded_entries_from held_entries_from (entries_of_pair * pairs b) (max_pairs * entries_of_pair) (omega (arith, head_counts)) (λ o l h. (
         unused (entry_used b o) max_cost (loaded_entries_from + o) (omega arith) (limits_loaded_entries b o h) (no_entry o l),
-        unused (entry_used b o) max_parts (held_entries_from + o) (omega arith) (limits-held_entries b o) (no_entry o l),
+        unused (entry_used b o) max_parts (held_entries_from + o) (omega arith) (limits-held_entries b o h) (no_entry o l),
       )))
 
 -- ---- the test and the facts

@@ -17,11 +17,11 @@ use Rattle.theory.specs.Range.{all}
 use Rattle.theory.proofs.Range.{both_true, bool_ext, all_true, all_false, all_split, all-rows, all_cong, pass_all}
 use Rattle.units.specs.Units.{scale_min, scale_max}
 use Rattle.tables.specs.declared.place_limits.Limits.{Limits}
-use Rattle.tables.specs.Block.{block_length, max_trains, max_choices, max_pairs, max_cost, max_parts, trains_place, scale_place, pairs_place, constant_place, size_place, first_place, second_place, sizes_from, firsts_from, seconds_from, loaded_choices_from, held_choices_from, loaded_entries_from, held_entries_from, entries_of_pair, at, figure, trains, pairs, size, first, second}
+use Rattle.tables.specs.Block.{block_length, max_trains, max_choices, max_pairs, max_cost, max_parts, trains_place, scale_place, pairs_place, constant_place, size_place, first_place, second_place, sizes_from, firsts_from, seconds_from, loaded_choices_from, held_choices_from, loaded_entries_from, held_entries_from, order_from, entries_of_pair, at, figure, trains, pairs, size, first, second}
 use Rattle.tables.specs.WellFormed.{from_to, cost_to, within, used_if, choice_used, entry_used, head_limits, limits_at, place_right, places_right, is_zero, is_fresh}
-use Rattle.tables.specs.Rows.{run_within, row_within, right_at, head_right, shape_right, choices_used, choices_within, entries_used, pair_within, entries_within}
+use Rattle.tables.specs.Rows.{run_within, row_within, right_at, head_right, shape_right, choices_used, choices_within, entries_used, pair_within, entries_within, order_within}
 use Rattle.tables.proofs.Signed.{bits_none}
-use Rattle.tables.proofs.Limits.{within-figure, choice_used_lem, entry_used_lem, entry_absent, limits_head, limits-size, limits-first, limits-second, limits_loaded_choices, limits-held_choices, limits_loaded_entries, limits-held_entries}
+use Rattle.tables.proofs.Limits.{within-figure, choice_used_lem, entry_used_lem, entry_absent, limits_head, limits-size, limits-first, limits-second, limits_loaded_choices, limits-held_choices, limits_loaded_entries, limits-held_entries, limits_order}
 
 -- ---- one row
 
@@ -142,13 +142,14 @@ module _ (b : List ℤ) where
 
   pub places_tables : length b ≡ block_length → places_right b
       ≡ shape_right b && choices_within b loaded_choices_from (cost_to max_cost) && choices_within b held_choices_from (cost_to max_parts)
-      && entries_within b loaded_entries_from (cost_to max_cost) && entries_within b held_entries_from (cost_to max_parts)
+      && entries_within b loaded_entries_from (cost_to max_cost) && entries_within b held_entries_from (cost_to max_parts) && order_within b
   unfolding places_right
   places_tables e =
       rw (
         pass_all (place_right b) (pos 0) b,
         e,
-        region held_entries_from (max_pairs * entries_of_pair) (λ o. used_if (entry_used b o) (cost_to max_parts)) (λ o h. limits-held_entries b o),
+        region order_from max_trains (λ d. used_if (ltb d (trains b)) (from_to 0 (max_trains - 1))) (λ d h. limits_order b d),
+        region held_entries_from (max_pairs * entries_of_pair) (λ o. used_if (entry_used b o) (cost_to max_parts)) (limits-held_entries b),
         region loaded_entries_from (max_pairs * entries_of_pair) (λ o. used_if (entry_used b o) (cost_to max_cost)) (limits_loaded_entries b),
         region held_choices_from (max_trains * max_choices) (λ o. used_if (choice_used b o) (cost_to max_parts)) (limits-held_choices b),
         region loaded_choices_from (max_trains * max_choices) (λ o. used_if (choice_used b o) (cost_to max_cost)) (limits_loaded_choices b),
@@ -175,6 +176,9 @@ module _ (b : List ℤ) (n : ℕ) (e : all n (right_at b) ≡ true) where
       (most trains_place _ (omega arith) (limits_head b trains_place (omega arith)), most pairs_place _ (omega arith) (limits_head b pairs_place (omega arith)))
 
 module _ (b : List ℤ) (e : shape_right b ≡ true) where
+  pub trains_most : trains b ≤ max_trains
+  trains_most = (head_most b loaded_choices_from e (omega arith)).0
+
   pub pairs_most : pairs b ≤ max_pairs
   pairs_most = (head_most b loaded_choices_from e (omega arith)).1
 
@@ -197,7 +201,7 @@ module _ (b : List ℤ) (e : shape_right b ≡ true) where
       (if_most (ltb a (size b (first b k))) (size b (second b k)) max_choices (size_most (second b k) (pair_trains k h).1))
 
 -- what is known of a block once its shape is right, and of its tables
-pub ruleset study = (places_tables, pairs_most)
+pub ruleset study = (places_tables, trains_most, pairs_most)
 
 -- what the loops over rows ask at each row
 pub ruleset row_calls = (serving, choices_most, entries_most)

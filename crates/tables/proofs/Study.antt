@@ -10,33 +10,38 @@ use lib.Dec.{ltb, eqb}
 use lib.IntN.{ℤ, pos, negsuc}
 use lib.ListN.{length, set, replicate, length-set, length-replicate}
 use lib.Seq.{ext_get_or, get_or-set_same, get_or-set_other}
-use borrow.Author.Tests.{lt-ltb, ltb-true, eq-eqb, ne_eqb, eqb-true}
+use borrow.Author.Tests.{lt-ltb, le-ltb, ltb-true, eq-eqb, ne_eqb, eqb-true}
 use Rattle.std.specs.Prelude.{◌↔◌, Option, None, IsSome}
 use Rattle.std.proofs.lemmas.List.{get_or-replicate}
+use Rattle.theory.specs.Order.{each_once}
 use Rattle.theory.proofs.Range.{both_true, all_true, all_intro, pass_all}
+use Rattle.theory.proofs.Order.{once_cong}
+use Rattle.theory.proofs.Order as theory
 use Rattle.units.specs.Units.{scale_min, scale_max}
 use Rattle.tables.specs.declared.block.Block.{Block}
 use Rattle.tables.specs.declared.block.Block.TheVariants.{Fresh, Held}
 use Rattle.tables.specs.declared.held_study.HeldStudy.{HeldStudy}
 use Rattle.tables.specs.declared.place_limits.Limits.{Limits}
 use Rattle.tables.specs.Known.{block_numbers, fresh_of}
-use Rattle.tables.specs.Block.{block_length, max_trains, max_choices, max_pairs, max_cost, max_parts, trains_place, constant_place, size_place, first_place, second_place, entries_of_pair, loaded_choices_from, held_choices_from, loaded_entries_from, held_entries_from, loaded_choice_place, held_choice_place, loaded_entry_place, held_entry_place, at, nat, figure, trains, scale, pairs, constant, size, first, second, held_choice, held_entry}
-use Rattle.tables.specs.WellFormed.{from_to, cost_to, within, is_open, mated, used_if, choice_used, entry_used, head_limits, limits_at, places_right, before, follows, pair_right, pairs_right, fresh_block, is_zero, is_fresh, holds_study, well_formed, Study}
+use Rattle.tables.specs.Block.{block_length, max_trains, max_choices, max_pairs, max_cost, max_parts, trains_place, constant_place, size_place, first_place, second_place, entries_of_pair, loaded_choices_from, held_choices_from, loaded_entries_from, held_entries_from, order_from, order_place, loaded_choice_place, held_choice_place, loaded_entry_place, held_entry_place, at, nat, figure, trains, scale, pairs, constant, size, first, second, held_choice, held_entry, order}
+use Rattle.tables.specs.WellFormed.{from_to, cost_to, within, is_open, mated, used_if, choice_used, entry_used, head_limits, limits_at, places_right, before, follows, pair_right, pairs_right, order_right, fresh_block, is_zero, is_fresh, holds_study, well_formed, Study}
 use Rattle.tables.proofs.Mates.{mated-mates, mates-mated, mate_open, mate_same}
-use Rattle.tables.proofs.Limits.{Within, within-figure, within_pos, within-closed, choice_used_lem, entry_used_lem, limits_head, limits-size, limits-first, limits-second, limits_loaded_choices, limits-held_choices, limits_loaded_entries, limits-held_entries, shape_limits_lem, shape_closable}
+use Rattle.tables.proofs.Limits.{Within, within-figure, within_pos, within-closed, choice_used_lem, entry_used_lem, limits_head, limits-size, limits-first, limits-second, limits_loaded_choices, limits-held_choices, limits_loaded_entries, limits-held_entries, limits_order, used_closable, shape_limits_lem, shape_closable}
 
 -- ---- the test and the facts
 
 pub holds_study_lem : (b : List ℤ) → length b ≡ block_length → holds_study b ≡ true → Study b
 unfolding holds_study places_right pairs_right
 holds_study_lem b l e =
-    let g = both_true (places_right b && pairs_right b) (mated b) e in
-    let f = both_true (places_right b) (pairs_right b) g.0 in
+    let g = both_true (places_right b && pairs_right b && order_right b) (mated b) e in
+    let o = both_true (places_right b && pairs_right b) (order_right b) g.0 in
+    let f = both_true (places_right b) (pairs_right b) o.0 in
     let m = mated-mates b g.1 in
     record {
       whole = l;
       places = λ p h. all_true (λ q. within (limits_at b q) (at b q)) (length b) (sym (pass_all (λ q z. within (limits_at b q) z) (pos 0) b) ∙ f.0) p (omega arith);
       ordered = all_true (pair_right b) (pairs b) f.1;
+      once = o.1;
       choices_mated = m.0;
       entries_mated = m.1;
     }
@@ -56,6 +61,7 @@ study_holds {b} s =
       pass_all (λ q z. within (limits_at b q) z) (pos 0) b,
       all_intro (λ q. within (limits_at b q) (at b q)) (length b) (λ p h. s.places p (omega (arith, s.whole))),
       all_intro (pair_right b) (pairs b) s.ordered,
+      s.once,
       mates-mated b s.choices_mated s.entries_mated,
     )
 
@@ -177,7 +183,7 @@ module _ {b : List ℤ} (s : Study b) where
   pub held_entry_high : (k a c : ℕ) → k < max_pairs → a < max_choices → c < max_choices → held_entry b k a c ≤ max_parts
   held_entry_high k a c h p q =
       let i = entries_of_pair * k + (max_choices * a + c) in
-      at_most (entry_used b i) (cost_to max_parts) (held_entry_place k a c) (omega arith) (limits-held_entries b i)
+      at_most (entry_used b i) (cost_to max_parts) (held_entry_place k a c) (omega arith) (limits-held_entries b i (omega arith))
 
   pub first_high : (k : ℕ) → k < max_pairs → first b k < max_trains
   first_high k h = omega (arith, at_most (ltb k (pairs b)) (from_to 0 (max_trains - 1)) (first_place k) (omega arith) (limits-first b k h))
@@ -248,7 +254,7 @@ module _ {b : List ℤ} (s : Study b) where
       pub held_entry_range : Within (cost_to max_parts) b (held_entry_place k a c)
       held_entry_range =
           used (entry_used b (entries_of_pair * k + (max_choices * a + c))) (cost_to max_parts) (held_entry_place k a c) (omega (arith, small))
-          (limits-held_entries b (entries_of_pair * k + (max_choices * a + c))) entry_here
+          (limits-held_entries b (entries_of_pair * k + (max_choices * a + c)) (omega (arith, small))) entry_here
 
 -- the limits of n and m, of sizes and of the pairs' trains
 pub ruleset shape_ranges = (trains_range, pairs_range, size_range, first_high, second_high, first-below-trains, second-below-trains)
@@ -303,6 +309,24 @@ module _ {b : List ℤ} (s : Study b) where
       dite (dec_lt k l) (λ (w : k < l). absurd (apart_below k l w q e f))
       (λ n. dite (dec_lt l k) (λ (w : l < k). absurd (apart_below l k w h (sym e) (sym f))) (λ m. omega arith))
 
+-- ---- the order
+
+module _ {b : List ℤ} (s : Study b) where
+  -- each place of the order holds a train
+  pub order_below : (d : ℕ) → d < trains b → order b d < trains b
+  unfolding order_right
+  order_below d h = theory.order_below (record { once = s.once }) d h
+
+  -- its places are not below 0
+  pub order_natural : (d : ℕ) → d < max_trains → at b (order_place d) ≡ pos (order b d)
+  order_natural d h = (at_limits s _ (order_place d) (omega arith) (limits_order b d)).natural (used_closable (ltb d (trains b)) 0 (max_trains - 1))
+
+  -- 'and unused places are 0'
+  pub order_unused : (d : ℕ) → trains b ≤ d → d < max_trains → at b (order_place d) ≡ pos 0
+  order_unused d h q =
+      let w = at_limits s (from_to 0 0) (order_place d) (omega arith) (limits_order b d ∙ rw (le-ltb d (trains b) h)) in
+      w.natural refl ∙ ap pos (omega (arith, w.high))
+
 -- ---- a changed block
 
 -- c has the length and the shape of b: it differs from b in costs and constant only
@@ -310,7 +334,11 @@ pub record SameShape (b c : List ℤ) : Type 0 where
   pub whole : length c ≡ length b
   pub kept : (p : ℕ) → p < loaded_choices_from → p ≢ constant_place → at c p ≡ at b p
 
--- c is open where b is, in both tables
+-- c has the order of b
+pub record SameOrder (b c : List ℤ) : Type 0 where
+  pub order_kept : (p : ℕ) → order_from ≤ p → at c p ≡ at b p
+
+-- c is open where b is, in all tables and in the order
 abbrev pub SameOpen : List ℤ → List ℤ → Type 0
 SameOpen b c = (p : ℕ) → loaded_choices_from ≤ p → is_open (at c p) ≡ is_open (at b p)
 
@@ -321,6 +349,9 @@ figure_at b p v e = ap nat e
 pub same_figure : (b c : List ℤ) (p : ℕ) → at c p ≡ at b p → figure c p ≡ figure b p
 unfolding figure
 same_figure b c p e = ap nat e
+
+pub same_order : {b c : List ℤ} → SameOrder b c → (d : ℕ) → order c d ≡ order b d
+same_order {b} {c} o d = same_figure b c (order_place d) (o.order_kept (order_place d) (omega arith))
 
 module _ {b c : List ℤ} (e : SameShape b c) where
   pub same_trains : trains c ≡ trains b
@@ -367,7 +398,9 @@ module _ {b c : List ℤ} (e : SameShape b c) where
         (λ (q : p < loaded_entries_from). by_choices held_choices_from max_parts limits-held_choices (omega arith) (omega arith))
         (λ n. dite (dec_lt p held_entries_from)
         (λ (q : p < held_entries_from). by_entries loaded_entries_from max_cost limits_loaded_entries (omega arith) (omega arith))
-        (λ n. by_entries held_entries_from max_parts (λ d o q. limits-held_entries d o) (omega arith) (omega arith)))))
+        (λ n. dite (dec_lt p order_from)
+        (λ (q : p < order_from). by_entries held_entries_from max_parts limits-held_entries (omega arith) (omega arith))
+        (λ n. in_order (omega arith))))))
       where
         in_shape : p < loaded_choices_from → limits_at c p ≡ limits_at b p
         in_shape q = shape_limits_lem c b p q same_trains same_pairs
@@ -384,27 +417,56 @@ module _ {b c : List ℤ} (e : SameShape b c) where
             let d : from + (p - from) ≡ p = omega arith in
             rw d at (law c (p - from) (omega arith) ∙ ap (λ (t : Bool). used_if t (cost_to high)) (same_entry_used (p - from) (omega arith)) ∙ sym (law b (p - from) (omega arith)))
 
+        in_order : order_from ≤ p → limits_at c p ≡ limits_at b p
+        in_order l =
+            let d : order_from + (p - order_from) ≡ p = omega arith in
+            rw d at (limits_order c (p - order_from) ∙ ap (λ (n : ℕ). used_if (ltb (p - order_from) n) (from_to 0 (max_trains - 1))) same_trains ∙ sym (limits_order b (p - order_from)))
+
     same_pair_right : (k : ℕ) → k < max_pairs → pair_right c k ≡ pair_right b k
     unfolding pair_right follows
     same_pair_right k h =
         rw (same_first k h, same_second k h, same_trains, same_first (k - 1) (omega arith), same_second (k - 1) (omega arith))
 
-    -- a block of the same shape, open where b is, whose costs and constant are within their limits, holds a study
-    pub study_from : ((p : ℕ) → p < block_length → (p ≡ constant_place) ⊎ (loaded_choices_from ≤ p) → within (limits_at b p) (at c p) ≡ true)
+    -- a block of the same shape and the same order, open where b is, whose costs and constant are within their limits, holds a study
+    pub study_from : SameOrder b c → ((p : ℕ) → p < order_from → (p ≡ constant_place) ⊎ (loaded_choices_from ≤ p) → within (limits_at b p) (at c p) ≡ true)
         → SameOpen b c → Study c
-    study_from costs opens =
+    unfolding order_right
+    study_from o costs opens =
         record {
           whole = e.whole ∙ s.whole;
           places = λ p h. rw (same_limits p h) (at_place p h);
           ordered = λ k h. same_pair_right k (omega (arith, pairs_range s, same_pairs)) ∙ s.ordered k (omega (arith, same_pairs));
+          once = ap (λ (n : ℕ). each_once n (order c)) same_trains ∙ once_cong (trains b) (order c) (order b) (λ d h. same_order o d) ∙ s.once;
           choices_mated = λ o h. mate_same _ _ _ _ (opens (loaded_choices_from + o) (omega arith)) (opens (held_choices_from + o) (omega arith)) ∙ s.choices_mated o h;
           entries_mated = λ o h. mate_same _ _ _ _ (opens (loaded_entries_from + o) (omega arith)) (opens (held_entries_from + o) (omega arith)) ∙ s.entries_mated o h;
         }
       where
         at_place : (p : ℕ) → p < block_length → within (limits_at b p) (at c p) ≡ true
         at_place p h =
-            dite (ℕ_discrete p constant_place) (λ (q : p ≡ constant_place). costs p h (inl q))
-            (λ n. dite (dec_lt p loaded_choices_from) (λ (q : p < loaded_choices_from). rw (e.kept p q n) (s.places p h)) (λ m. costs p h (inr (omega arith))))
+            dite (ℕ_discrete p constant_place) (λ (q : p ≡ constant_place). costs p (omega arith) (inl q))
+            (λ n. dite (dec_lt p loaded_choices_from) (λ (q : p < loaded_choices_from). rw (e.kept p q n) (s.places p h))
+            (λ m. dite (dec_lt p order_from) (λ (q : p < order_from). costs p q (inr (omega arith))) (λ k. rw (o.order_kept p (omega arith)) (s.places p h))))
+
+    -- so does a block that differs from b in its order only, where that has each train exactly once
+    pub study_ordered : ((p : ℕ) → p < order_from → at c p ≡ at b p) → ((d : ℕ) → d < max_trains → within (limits_at b (order_place d)) (at c (order_place d)) ≡ true)
+        → order_right c ≡ true → Study c
+    study_ordered kept trains_in o =
+        record {
+          whole = e.whole ∙ s.whole;
+          places = λ p h. rw (same_limits p h) (at_place p h);
+          ordered = λ k h. same_pair_right k (omega (arith, pairs_range s, same_pairs)) ∙ s.ordered k (omega (arith, same_pairs));
+          once = o;
+          choices_mated = λ o h. mate_same _ _ _ _ (opens (loaded_choices_from + o) (omega arith)) (opens (held_choices_from + o) (omega arith)) ∙ s.choices_mated o h;
+          entries_mated = λ o h. mate_same _ _ _ _ (opens (loaded_entries_from + o) (omega arith)) (opens (held_entries_from + o) (omega arith)) ∙ s.entries_mated o h;
+        }
+      where
+        opens : (p : ℕ) → p < order_from → is_open (at c p) ≡ is_open (at b p)
+        opens p h = ap is_open (kept p h)
+
+        at_place : (p : ℕ) → p < block_length → within (limits_at b p) (at c p) ≡ true
+        at_place p h =
+            dite (dec_lt p order_from) (λ (q : p < order_from). rw (kept p q) (s.places p h))
+            (λ n. let z : order_place (p - order_from) ≡ p = omega arith in rw z at (trains_in (p - order_from) (omega arith)))
 
 -- writing a cost or the constant keeps the shape
 pub put_same_shape : (b : List ℤ) (p : ℕ) (z : ℤ) → (p ≡ constant_place) ⊎ (loaded_choices_from ≤ p) → SameShape b (set b p z)
@@ -414,23 +476,27 @@ put_same_shape b p z w =
       kept = λ q h n. get_or-set_other b p q z (pos 0) (λ e. ⊎_elim (λ (f : p ≡ constant_place). n (e ∙ f)) (λ (f : loaded_choices_from ≤ p). omega arith) w);
     }
 
+-- and the order
+pub put_same_order : (b : List ℤ) (p : ℕ) (z : ℤ) → p < order_from → SameOrder b (set b p z)
+put_same_order b p z h = record { order_kept = λ q l. get_or-set_other b p q z (pos 0) (λ e. omega arith) }
+
 open_pos : (v : ℕ) → is_open (pos v) ≡ true
 unfolding is_open
 open_pos v = refl
 
 -- writing an open cost or the constant within its limits keeps a study
-pub put_study : {b : List ℤ} → Study b → (p v : ℕ) → p < block_length → (p ≡ constant_place) ⊎ (loaded_choices_from ≤ p) → is_open (at b p) ≡ true
+pub put_study : {b : List ℤ} → Study b → (p v : ℕ) → p < order_from → (p ≡ constant_place) ⊎ (loaded_choices_from ≤ p) → is_open (at b p) ≡ true
     → (limits_at b p).low ≤ v → v ≤ (limits_at b p).high → Study (set b p (pos v))
 put_study {b} s p v h w o low high =
-    study_from (put_same_shape b p (pos v) w) s (λ q l _. at_place q l (ℕ_discrete q p)) (λ q l. stays q (ℕ_discrete q p))
+    study_from (put_same_shape b p (pos v) w) s (put_same_order b p (pos v) h) (λ q l _. at_place q l (ℕ_discrete q p)) (λ q l. stays q (ℕ_discrete q p))
   where
     stays : (q : ℕ) → Dec (q ≡ p) → is_open (at (set b p (pos v)) q) ≡ is_open (at b q)
     stays q (yes e) = ap is_open (ap (at (set b p (pos v))) e ∙ get_or-set_same b p (pos v) (pos 0) (omega (arith, s.whole))) ∙ open_pos v ∙ sym (ap (λ (r : ℕ). is_open (at b r)) e ∙ o)
     stays q (no n) = ap is_open (get_or-set_other b p q (pos v) (pos 0) n)
 
-    at_place : (q : ℕ) → q < block_length → Dec (q ≡ p) → within (limits_at b q) (at (set b p (pos v)) q) ≡ true
+    at_place : (q : ℕ) → q < order_from → Dec (q ≡ p) → within (limits_at b q) (at (set b p (pos v)) q) ≡ true
     at_place q l (yes e) = rw (e, get_or-set_same b p (pos v) (pos 0) (omega (arith, s.whole))) (within_pos (limits_at b p) v low high)
-    at_place q l (no n) = rw (get_or-set_other b p q (pos v) (pos 0) n) (s.places q l)
+    at_place q l (no n) = rw (get_or-set_other b p q (pos v) (pos 0) n) (s.places q (omega arith))
 
 -- ---- the blocks that the constructor gives
 

@@ -3,9 +3,9 @@ use Rattle.std.specs.Prelude.{List, ℕ, ◌+◌, ◌*◌, ℤ, pos, negsuc, get
 
 -- ---- limits
 
--- '6,652 lent signed 64-bit numbers'
+-- 'lent signed 64-bit numbers': 6,652 of document 01, and of document 02, change 10, 'The block gains 24 places from 6652'
 abbrev pub block_length : ℕ
-block_length = 6652
+block_length = 6676
 
 -- 'n is 1 to 24'
 abbrev pub max_trains : ℕ
@@ -103,6 +103,13 @@ held_entries_from = 3580
 abbrev pub held_entry_place : ℕ → ℕ → ℕ → ℕ
 held_entry_place k a c = entry_place held_entries_from k a c
 
+-- 'The block gains 24 places from 6652 for them': for the trains, in the order in which they are tried
+abbrev pub order_from : ℕ
+order_from = 6652
+
+abbrev pub order_place : ℕ → ℕ
+order_place d = order_from + d
+
 -- ---- what stands there
 
 -- the number at place p; 0 past the end
@@ -160,3 +167,7 @@ loaded_entry b k a c = figure b (loaded_entry_place k a c)
 -- T of the two choices a and c of pair k, in parts
 abbrev pub held_entry : List ℤ → ℕ → ℕ → ℕ → ℕ
 held_entry b k a c = figure b (held_entry_place k a c)
+
+-- the train that is tried d-th, counted from 0: 'which train is tried when'
+abbrev pub order : List ℤ → ℕ → ℕ
+order b d = figure b (order_place d)

@@ -1,9 +1,9 @@
 -- What `all_zero` of places.rt and the private functions of well_formed.rt answer, row by row. Nothing here is part of the rule: proofs/Rows.antt brings it to `well_formed`.
-use Rattle.std.specs.Prelude.{Bool, cond, List, ℕ, ◌+◌, ◌*◌, ltb, ℤ}
+use Rattle.std.specs.Prelude.{Bool, cond, List, ℕ, ◌+◌, ◌*◌, ◌-◌, ltb, ℤ}
 use Rattle.theory.specs.Range.{all}
 use Rattle.tables.specs.declared.place_limits.Limits.{Limits}
-use Rattle.tables.specs.Block.{max_trains, max_choices, max_pairs, entries_of_pair, loaded_choices_from, at, trains, pairs, size, first, second}
-use Rattle.tables.specs.WellFormed.{within, mate, used_if, choice_used, entry_used, place_right}
+use Rattle.tables.specs.Block.{max_trains, max_choices, max_pairs, entries_of_pair, loaded_choices_from, order_from, at, trains, pairs, size, first, second}
+use Rattle.tables.specs.WellFormed.{from_to, within, mate, used_if, choice_used, entry_used, place_right}
 
 -- `count` places from `from` on are within the limits
 abbrev pub run_within : List ℤ → ℕ → ℕ → Limits → Bool
@@ -48,3 +48,7 @@ pair_within b from k l = all entries_of_pair (λ o. within (used_if (entry_used 
 -- the table of pairs that begins at `from` is within the limits
 abbrev pub entries_within : List ℤ → ℕ → Limits → Bool
 entries_within b from l = all (max_pairs * entries_of_pair) (λ o. within (used_if (entry_used b o) l) (at b (from + o)))
+
+-- the places of the order are within their limits
+abbrev pub order_within : List ℤ → Bool
+order_within b = row_within b order_from max_trains (trains b) (from_to 0 (max_trains - 1))

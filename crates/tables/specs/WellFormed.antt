@@ -1,9 +1,10 @@
--- Document 01, 'State block': when a block is well formed.
+-- Document 01, 'State block', and document 02, change 10: when a block is well formed.
 use Rattle.std.specs.Prelude.{◌≡◌, Bool, true, false, cond, not, ◌&&◌, ◌||◌, List, ℕ, zero, suc, ◌+◌, ◌*◌, ◌-◌, ◌/◌, ◌%◌, ◌<◌, leb, ltb, eqb, ℤ, pos, negsuc, length, replicate, drop}
 use Rattle.theory.specs.Range.{all, pass}
+use Rattle.theory.specs.Order.{each_once}
 use Rattle.units.specs.Units.{scale_min, scale_max}
 use Rattle.tables.specs.declared.place_limits.Limits.{Limits}
-use Rattle.tables.specs.Block.{block_length, max_trains, max_choices, max_pairs, max_cost, max_parts, trains_place, scale_place, pairs_place, sizes_from, firsts_from, seconds_from, loaded_choices_from, held_choices_from, loaded_entries_from, held_entries_from, at, trains, pairs, size, first, second, entries_of_pair}
+use Rattle.tables.specs.Block.{block_length, max_trains, max_choices, max_pairs, max_cost, max_parts, trains_place, scale_place, pairs_place, sizes_from, firsts_from, seconds_from, loaded_choices_from, held_choices_from, loaded_entries_from, held_entries_from, order_from, at, trains, pairs, size, first, second, order, entries_of_pair}
 
 -- the least and the greatest number that a place may hold, and whether it may hold −1: 'A choice or pair of choices can be forbidden'
 abbrev pub limits : ℕ → ℕ → Bool → Limits
@@ -56,9 +57,13 @@ cost_limits b p =
     (cond (ltb p held_entries_from) (used_if (entry_used b (p - loaded_entries_from)) (cost_to max_cost))
     (used_if (entry_used b (p - held_entries_from)) (cost_to max_parts))))
 
+-- the first n places of the order are each a train, 'and unused places are 0'
+unfoldable pub order_limits : List ℤ → ℕ → Limits
+order_limits b p = used_if (ltb (p - order_from) (trains b)) (from_to 0 (max_trains - 1))
+
 -- what place p may hold
 unfoldable pub limits_at : List ℤ → ℕ → Limits
-limits_at b p = cond (ltb p loaded_choices_from) (shape_limits b p) (cost_limits b p)
+limits_at b p = cond (ltb p loaded_choices_from) (shape_limits b p) (cond (ltb p order_from) (cost_limits b p) (order_limits b p))
 
 -- every place is within its limits
 abbrev pub place_right : List ℤ → ℕ → ℤ → Bool
@@ -82,6 +87,10 @@ pair_right b k = ltb (first b k) (second b k) && (ltb (second b k) (trains b) &&
 -- 'm pairs i < j, strictly ascending by (i, j)'
 unfoldable pub pairs_right : List ℤ → Bool
 pairs_right b = all (pairs b) (pair_right b)
+
+-- 'a loaded block's order is judged likewise': 'each train exactly once'
+unfoldable pub order_right : List ℤ → Bool
+order_right b = each_once (trains b) (order b)
 
 -- a number that is not below 0
 unfoldable pub is_open : ℤ → Bool
@@ -115,7 +124,7 @@ is_fresh b = pass (λ p z. is_zero z) 0 b
 
 -- the second half of 'well formed': a block that holds a loaded study
 unfoldable pub holds_study : List ℤ → Bool
-holds_study b = places_right b && pairs_right b && mated b
+holds_study b = places_right b && pairs_right b && order_right b && mated b
 
 -- 'A block is well formed if fresh, or ..'
 unfoldable pub well_formed : List ℤ → Bool
@@ -126,5 +135,6 @@ pub record Study (b : List ℤ) : Type 0 where
   pub whole : length b ≡ block_length
   pub places : (p : ℕ) → p < block_length → within (limits_at b p) (at b p) ≡ true
   pub ordered : (k : ℕ) → k < pairs b → pair_right b k ≡ true
+  pub once : order_right b ≡ true
   pub choices_mated : (o : ℕ) → o < max_trains * max_choices → mate (at b (loaded_choices_from + o)) (at b (held_choices_from + o)) ≡ true
   pub entries_mated : (o : ℕ) → o < max_pairs * entries_of_pair → mate (at b (loaded_entries_from + o)) (at b (held_entries_from + o)) ≡ true

@@ -1,8 +1,8 @@
-// Document 01, 'State block': where everything stands in the block, its readers and its writers.
+// Document 01, 'State block', and document 02, change 10: where everything stands in the block, its readers and its writers.
 // The bounds of i, k, a, a place and a stored number are each of one argument of one call: an index type would be made in each turn of a caller's loop, and read back for each place.
 ghost use Rattle.std.specs.Prelude.{◌≡◌, ◌+◌, ◌*◌, ◌<◌, ◌≤◌, ◌^◌, pos, set};
 ghost use Rattle.units.specs.Units.{number_of_points, number_of_parts, scale_min, scale_max};
-ghost use Rattle.tables.specs.Block.{block_length, max_trains, max_choices, max_pairs, trains_place, scale_place, pairs_place, size_place, first_place, second_place, choice_place, entry_place, at, loaded_choice_place, held_choice_place, trains, scale, pairs, constant, size, first, second, loaded_choice, held_choice, loaded_entry};
+ghost use Rattle.tables.specs.Block.{block_length, max_trains, max_choices, max_pairs, trains_place, scale_place, pairs_place, size_place, first_place, second_place, choice_place, entry_place, at, loaded_choice_place, held_choice_place, order_place, trains, scale, pairs, constant, size, first, second, loaded_choice, held_choice, loaded_entry, order};
 ghost use Rattle.tables.specs.WellFormed.{is_open};
 
 use crate::held_study::HeldStudy;
@@ -28,7 +28,7 @@ pub struct Pair {
 
 impl Block<'_> {
     // How many numbers a block has.
-    pub const LENGTH: usize = 6652;
+    pub const LENGTH: usize = 6676;
     // The most trains.
     pub const TRAINS: usize = 24;
     // The most choices of a train.
@@ -63,6 +63,8 @@ impl Block<'_> {
     pub const LOADED_ENTRIES_FROM: usize = 508;
     // Where T of the pairs begins.
     pub const HELD_ENTRIES_FROM: usize = 3580;
+    // Where the order of the trains begins.
+    pub const ORDER_FROM: usize = 6652;
     // How many places a pair has in a table.
     pub const ENTRIES: usize = 64;
 }
@@ -182,6 +184,14 @@ pub fn loaded_entry(b: &Places, k: usize, a: usize, c: usize) -> Points
     Points::from(places::get(b, entry_place(Block::LOADED_ENTRIES_FROM, k, a, c)))
 }
 
+// The train that is tried d-th, counted from 0.
+pub fn order(b: &Places, d: usize) -> usize
+    requires { d < max_trains }
+    ensures { result ≡ order b.now d }
+{
+    places::get(b, Block::ORDER_FROM + d) as usize
+}
+
 // ---- writers: each is the name of a place likewise, over `places::put`
 
 // Stores n.
@@ -245,4 +255,12 @@ pub fn put_held_choice(b: &mut Places, i: usize, a: usize, v: Parts)
     ensures { b.new ≡ set b.old (held_choice_place i a) (pos (number_of_parts v)) }
 {
     places::put(b, choice_place(Block::HELD_CHOICES_FROM, i, a), v.into());
+}
+
+// Stores the train that is tried d-th, counted from 0.
+pub fn put_order(b: &mut Places, d: usize, i: usize)
+    requires { (d < max_trains) × (i < 2 ^ 63) }
+    ensures { b.new ≡ set b.old (order_place d) (pos i) }
+{
+    places::put(b, Block::ORDER_FROM + d, i as u64);
 }

@@ -3,6 +3,7 @@
 
 pub mod block;
 pub mod held_study;
+pub mod orders;
 pub mod place_limits;
 pub mod places;
 pub mod well_formed;

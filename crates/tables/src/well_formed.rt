@@ -1,14 +1,15 @@
-// Document 01, 'State block': whether a lent block is well formed. The tables are gone through row by row.
+// Document 01, 'State block', and document 02, change 10: whether a lent block is well formed. The tables are gone through row by row.
 ghost use Rattle.std.specs.Prelude.{◌≡◌, ◌↔◌, true, ◌+◌, ◌*◌, ◌<◌, ◌≤◌, IsSome, IfSome};
-ghost use Rattle.tables.specs.Block.{block_length, max_trains, max_choices, max_pairs, entries_of_pair, pairs};
-ghost use Rattle.tables.specs.WellFormed.{cost_to, places_right, mated, follows, pair_right, pairs_right, is_fresh, holds_study, well_formed};
-ghost use Rattle.tables.specs.Rows.{run_within, row_within, head_right, shape_right, choices_used, choices_within, entries_used, pair_within, entries_within};
+ghost use Rattle.tables.specs.Block.{block_length, max_trains, max_choices, max_pairs, entries_of_pair, trains, pairs};
+ghost use Rattle.tables.specs.WellFormed.{cost_to, places_right, mated, follows, pair_right, pairs_right, order_right, is_fresh, holds_study, well_formed};
+ghost use Rattle.tables.specs.Rows.{run_within, row_within, head_right, shape_right, choices_used, choices_within, entries_used, pair_within, entries_within, order_within};
 ghost use Rattle.tables.specs.Known.{block_numbers};
 
 use crate::block::{Block, Places};
 use crate::held_study::HeldStudy;
 use crate::place_limits::Limits;
-use crate::{block, places};
+use crate::{block, orders, places};
+use std::array;
 use units::Scale;
 
 // Numbers whose n, s, m, c0, sizes and pairs' trains are within their limits. It stands for that fact in the signatures of the tests of tables.
@@ -45,7 +46,7 @@ fn is_fresh(b: &Places) -> bool
     b[0] == 0 && places::all_zero(b, 0, b.len())
 }
 
-// Whether the places and the pairs are those of a loaded study.
+// Whether the places, the pairs and the order are those of a loaded study.
 #[tactic(auto, using(crate::proofs::Rows::study), unfolding(crate::specs::WellFormed::holds_study))]
 pub fn holds_study(b: &Places) -> bool
     ensures { result ≡ holds_study b.now }
@@ -61,6 +62,8 @@ pub fn holds_study(b: &Places) -> bool
         && choices_within(shaped, Block::HELD_CHOICES_FROM, parts)
         && entries_within(shaped, Block::LOADED_ENTRIES_FROM, costs)
         && entries_within(shaped, Block::HELD_ENTRIES_FROM, parts)
+        && order_within(b)
+        && order_right(b)
         && mated(b)
 }
 
@@ -223,4 +226,29 @@ fn entries_within(b: ShapedPlaces<'_>, from: usize, high: u64) -> bool
     ensures { result ≡ entries_within b.entry.numbers.now from (cost_to high) }
 {
     (0..Block::PAIRS).all(|k| pair_within(b, from, k, high))
+}
+
+// Whether the first n places of the order hold a number that a train may have, and the others 0.
+fn order_within(b: &Places) -> bool
+    requires { trains b.now ≤ max_trains }
+    ensures { result ≡ order_within b.now }
+{
+    let trains = Limits::from_to(0, Block::TRAINS as u64 - 1);
+    row_within(
+        b,
+        Block::ORDER_FROM,
+        Block::TRAINS,
+        block::trains(b),
+        trains,
+    )
+}
+
+// Whether the order has each train exactly once.
+#[tactic(auto, unfolding(crate::specs::WellFormed::order_right))]
+fn order_right(b: &Places) -> bool
+    requires { trains b.now ≤ max_trains }
+    ensures { result ≡ order_right b.now }
+{
+    let order: [u64; Block::TRAINS] = array::from_fn(|d| places::get(b, Block::ORDER_FROM + d));
+    orders::each_once(&order[..block::trains(b)])
 }

@@ -6,6 +6,7 @@ use Prim.Native.Nat.{ℕ, ◌+◌, ◌-◌, ◌≤◌}
 use native.Mathlib.Nat.{zero-add}
 use native.Mathlib.Omega.{arith}
 use lib.ListN.{length, get_or, take, drop}
+use lib.Seq.{length-take-le, get_or-take}
 use denote.Param.Members.{Mut}
 use denote.Ref.{Bor}
 use Rattle.std.specs.Fn.{Called}
@@ -38,6 +39,14 @@ part_all test l start n d u f r ran h e calls =
     let p = take (start + n - start) (drop start l) in
     all_from_yields_List test u f r ran (YieldsList-from_slice p e) calls ∙ list_all-all test d p
     ∙ rw (part_length l start n h) (all_cong n _ _ (λ k q. ap test (part_at l start n k d q)))
+
+-- `all` over the first n places of a slice
+pub front_all : {A F : Type 0} {g : Mut F (Bor A × Unit {0}) Bool} {s : Iter A} (test : A → Bool) (l : List A) (n : ℕ) (d : A) (u : Iter A) (f : F) (r : Bool)
+    → RanAll fronts g s u f r → n ≤ length l → iter_rest s ≡ take n l
+    → ((x : Bor A) (b : Bool) (q : F) → Called g f (x, tt) b q → (q ≡ f) × (b ≡ test x.now)) → r ≡ all n (λ k. test (get_or l k d))
+front_all test l n d u f r ran h e calls =
+    all_from_yields_List test u f r ran (YieldsList-from_slice (take n l) e) calls ∙ list_all-all test d (take n l)
+    ∙ rw (length-take-le n l h) (all_cong n _ _ (λ k q. ap test (get_or-take n l k d q)))
 
 -- `all` over the numbers below n
 pub range_all : {F : Type 0} {g : Mut F (ℕ × Unit {0}) Bool} {s : Range ℕ} (test : ℕ → Bool) (n : ℕ) (u : Range ℕ) (f : F) (r : Bool)

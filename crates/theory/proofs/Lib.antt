@@ -8,4 +8,5 @@ pub mod Fold
 pub mod Turns
 pub mod Lists
 pub mod Joined
+pub mod Order
 pub mod Chains

@@ -4,5 +4,6 @@ pub mod Product
 pub mod Whole
 pub mod Range
 pub mod First
+pub mod Order
 pub mod Fold
 pub mod Lists

@@ -26,7 +26,7 @@ use Rattle.rewriting.specs.declared.sides.Side.TheVariants.{Rows, Columns}
 use Rattle.rewriting.specs.Ends.{of_pair, ends_of, SameEnds, Forbidden, Above, SomeEnd}
 use Rattle.rewriting.specs.Moves.{ShapeInRange, run_place, lane_train, lane_run, choices_run}
 use Rattle.rewriting.specs.Leasts.{open_place, least_open, run_least, run_tightened}
-use Rattle.rewriting.proofs.Shape.{study_shape_in_range, SameLoaded, loaded_same, shape_in_range_kept, lane, unary, project_between_costs}
+use Rattle.rewriting.proofs.Shape.{study_shape_in_range, SameLoaded, loaded_same, shape_in_range_kept, lanes_most}
 use Rattle.rewriting.proofs.Steps.{across_train, lane_place, lane_same, choices_same}
 use Rattle.rewriting.proofs.Opens.{open_choice, open_entry, open_same}
 use Rattle.rewriting.proofs.LeastOpen.{least_open_cong}
@@ -78,22 +78,25 @@ trains_is x = refl
 module _ {b : List ℤ} (s : ShapeInRange b) where
   -- the least of a lane, whose entry w is open where o says, and has there the figure f w
   lane_least : (side : Side) (k y : ℕ) → k < pairs b → y < size b (lane_train side b k) → (z : List ℤ) → SameLoaded b z → (o : ℕ → Bool) (f : ℕ → ℕ)
-      → ((w : ℕ) → open_place b (lane_place side k y w) ≡ o w)
+      → ((w : ℕ) → w < size b (across_train side b k) → open_place b (lane_place side k y w) ≡ o w)
       → ((w : ℕ) → w < size b (across_train side b k) → o w ≡ true → figure z (lane_place side k y w) ≡ f w) → run_least (lane_run side z k y) z ≡ least_open (size b (across_train side b k)) o f
   lane_least side k y h q z u o f g e =
-      ap (λ (r : PlaceRun). run_least r z) (lane_same s z u.shape side k y h q) ∙ by side g e (λ i l. open_same u _ ((project_between_costs s (lane side k y h q)).inside i l))
+      ap (λ (r : PlaceRun). run_least r z) (lane_same s z u.shape side k y h q) ∙ by side g e (λ i l. open_same u _)
     where
-      by : (t : Side) → ((w : ℕ) → open_place b (lane_place t k y w) ≡ o w) → ((w : ℕ) → w < size b (across_train t b k) → o w ≡ true → figure z (lane_place t k y w) ≡ f w)
+      by : (t : Side) → ((w : ℕ) → w < size b (across_train t b k) → open_place b (lane_place t k y w) ≡ o w) → ((w : ℕ) → w < size b (across_train t b k) → o w ≡ true → figure z (lane_place t k y w) ≡ f w)
           → ((i : ℕ) → i < (lane_run t b k y).count → open_place z (run_place (lane_run t b k y) i) ≡ open_place b (run_place (lane_run t b k y) i))
           → run_least (lane_run t b k y) z ≡ least_open (size b (across_train t b k)) o f
       by Rows g e v =
           run_least_is (lane_run Rows b k y) z o f
-          (λ i l. let p : run_place (lane_run Rows b k y) i ≡ held_entry_place k y i = omega arith in v i l ∙ ap (open_place b) p ∙ g i)
+          (λ i l. let p : run_place (lane_run Rows b k y) i ≡ held_entry_place k y i = omega arith in v i l ∙ ap (open_place b) p ∙ g i l)
           (λ i l t. let p : run_place (lane_run Rows b k y) i ≡ held_entry_place k y i = omega arith in ap (figure z) p ∙ e i l t)
       by Columns g e v =
           run_least_is (lane_run Columns b k y) z o f
-          (λ i l. let p : run_place (lane_run Columns b k y) i ≡ held_entry_place k i y = omega arith in v i l ∙ ap (open_place b) p ∙ g i)
+          (λ i l. let p : run_place (lane_run Columns b k y) i ≡ held_entry_place k i y = omega arith in v i l ∙ ap (open_place b) p ∙ g i l)
           (λ i l t. let p : run_place (lane_run Columns b k y) i ≡ held_entry_place k i y = omega arith in ap (figure z) p ∙ e i l t)
+
+  entry_open_place : (k a d : ℕ) → k < pairs b → a < size b (first b k) → d < size b (second b k) → open_place b (held_entry_place k a d) ≡ (shape_of b).entry_open k a d
+  entry_open_place k a d h q r = open_entry b k a d (omega (arith, s.pairs)) (omega (arith, lanes_most s Rows k h)) (omega (arith, lanes_most s Columns k h))
 
   train_least_lem : (i : ℕ) → i < trains b → (z : List ℤ) → SameLoaded b z → (f : ℕ → ℕ)
       → ((a : ℕ) → a < size b i → (shape_of b).choice_open i a ≡ true → figure z (held_choice_place i a) ≡ f a) → run_least (choices_run z i) z ≡ least_open (size b i) (λ a. (shape_of b).choice_open i a) f
@@ -103,19 +106,20 @@ module _ {b : List ℤ} (s : ShapeInRange b) where
       ap (λ (r : PlaceRun). run_least r z) (choices_same s z u.shape i h)
       ∙ run_least_is (choices_run b i) z (λ a. (shape_of b).choice_open i a) f
       (λ a l. let p : run_place (choices_run b i) a ≡ held_choice_place i a = omega arith in
-      open_same u _ ((project_between_costs s (unary i h)).inside a l) ∙ ap (open_place b) p ∙ open_choice b i a (omega arith) (omega arith))
+      open_same u _ ∙ ap (open_place b) p ∙ open_choice b i a (omega arith) (omega arith))
       (λ a l t. let p : run_place (choices_run b i) a ≡ held_choice_place i a = omega arith in ap (figure z) p ∙ e a l t)
 
   row_sent_lem : (k : ℕ) → k < pairs b → RowSent b b k (from_row k) (λ a. pos (row_least b k a))
   row_sent_lem k h a q z u e =
-      ap pos (lane_least Rows k a h q z u (λ d. (shape_of b).entry_open k a d) (λ d. held_entry b k a d) (λ d. open_entry b k a d) (λ d w t. same_figure b z (held_entry_place k a d) (e d w)))
+      ap pos (lane_least Rows k a h q z u (λ d. (shape_of b).entry_open k a d) (λ d. held_entry b k a d) (λ d w. entry_open_place k a d h q w)
+      (λ d w t. same_figure b z (held_entry_place k a d) (e d w)))
 
   -- b holds natural numbers at its permitted entries
   module _ (x : Holds (shape_of b) b (held_costs b)) where
     column_sent_lem : (k : ℕ) → k < pairs b → ColumnSent b b k (λ a. pos (row_least b k a)) (from_column k) (λ d. pos (rest_least b k d))
     unfolding figure held_costs
     column_sent_lem k h d w z u e =
-        ap pos (lane_least Columns k d h w z u (λ a. (shape_of b).entry_open k a d) (λ a. held_entry b k a d - row_least b k a) (λ a. open_entry b k a d)
+        ap pos (lane_least Columns k d h w z u (λ a. (shape_of b).entry_open k a d) (λ a. held_entry b k a d - row_least b k a) (λ a q. entry_open_place k a d h q w)
         (λ a q t. ap nat (e a q ∙ ap (λ (y : ℤ). y -ℤ pos (row_least b k a)) (x.entries k a d h q w t)) ∙ nat_less (held_entry b k a d) (row_least b k a)))
 
     -- after the turn of a pair

@@ -1,6 +1,6 @@
 //! `claims [--reference] SEED SESSIONS`: checks document 01's claims and what is said of rounds, of forbidden entries, of
-//! stopping at the bound, of clauses, of reasons and of bounds in steps on sessions of small studies, and what is said of saves on as
-//! many sessions over studies of every size and blocks that no line makes.
+//! stopping at the bound, of clauses, of reasons, of bounds in steps and of orders on sessions of small studies, and what is said
+//! of saves on as many sessions over studies of every size and blocks that no line makes.
 
 use reference::claims::{check_session, Tally};
 use reference::random::Random;
@@ -9,7 +9,7 @@ use std::env;
 use std::error::Error;
 use std::process::ExitCode;
 
-const CALLS: usize = 60;
+const CALLS: usize = 66;
 
 fn main() -> ExitCode {
     reference::exit(run())

@@ -1,6 +1,6 @@
 -- Each request has its function, and its case of the definition; a fixed reply fits.
 use mathlib.Core.Path.{refl}
-use Rattle.requests.proofs.Ready.{study_ready, load_ready, add_ready, shift_ready, certify_ready, search_ready, clauses_ready, explain_ready}
+use Rattle.requests.proofs.Ready.{study_ready, load_ready, add_ready, shift_ready, certify_ready, search_ready, clauses_ready, explain_ready, order_ready}
 use Rattle.requests.proofs.line.answer_request.Goals as goal
 
 pub answer_load-requires : goal.answer_load-requires
@@ -38,3 +38,6 @@ known-requires-in-Explain c = study_ready (rw c.in-Explain.is at c.requires) ref
 
 pub answer_explain-requires : goal.answer_explain-requires
 answer_explain-requires c = let a = rw c.in-Explain.is at c.requires in rw c.known-in-Explain.ensures (a.fits, explain_ready a)
+
+pub answer_order-requires : goal.answer_order-requires
+answer_order-requires c = let a = rw c.in-Order.is at c.requires in (a.fits, order_ready a)

@@ -1,6 +1,4 @@
 -- Each field is laid by a function of its own, and the costs are laid already.
-use native.Mathlib.Omega.{arith}
-use Rattle.tables.proofs.Study.{trains_range}
 use Rattle.rows.proofs.table.Table.new.Goals as goal
 
 pub returns : goal.returns
@@ -9,7 +7,7 @@ returns c =
       trains_held = c.trains.ensures;
       scale_held = c.scale.ensures;
       bound_held = c.published.ensures;
-      sizes = λ t h. c.sizes.ensures t (omega (arith, trains_range c.args.study.held));
+      sizes = c.sizes.ensures;
       ends = c.rows.ensures.ends;
       bases = c.rows.ensures.bases;
       begins = c.begins.ensures;

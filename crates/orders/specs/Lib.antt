@@ -1,0 +1,4 @@
+-- The rule.
+pub mod Ordered
+-- The same study with its pairs in a list, and how such a list is sorted.
+pub mod Listed
