@@ -79,8 +79,9 @@ pub fn search_in(study: HeldStudy<'_>, order: &Order, budget: u64) -> Found
     requires in_range { budget ≤ max_budget }
     ensures { result ≡ answer_in (nth order.now) study.entry.numbers.now budget }
 {
-    let listing = &Listing::new(study, order);
+    // Before all else, so that its memory is cleared once: locals are cleared where a function begins, and what stands between keeps the compiler from leaving out the second time.
     let mut costs = [[0; Block::CHOICES]; Block::CHOICES * Block::PAIRS];
+    let listing = &Listing::new(study, order);
     table::lay_costs(listing, &mut costs);
     // A reference, since a walk over a local table that lends its costs has no proof.
     let table = &Table::new(listing, &costs);
