@@ -162,6 +162,27 @@ def _order_words(facts: Facts) -> str:
     return " ".join(["order", *map(str, facts["order"])])
 
 
+def _read_choices(fields: Fields) -> Facts:
+    return {"choices": fields.numbers(fields.left(COUNT_WIDTH), COUNT_WIDTH)}
+
+
+def _choices_words(facts: Facts) -> str:
+    return " ".join(["choices", *map(str, facts["choices"])])
+
+
+def _read_counted_choices(fields: Fields) -> Facts:
+    return {"choices": fields.numbers(fields.number(COUNT_WIDTH), COUNT_WIDTH)}
+
+
+# A record has no fact called plan or ended: `show` takes these for what a search found.
+def _read_record(fields: Fields) -> Facts:
+    return {**_read_counted_choices(fields), "bound": fields.number(FIGURE_WIDTH), "cost": fields.number(FIGURE_WIDTH)}
+
+
+def _record_words(facts: Facts) -> str:
+    return f"record of {_choices_words(facts)}, bound {counted(facts['bound'], 'point')}, cost {counted(facts['cost'], 'point')}"
+
+
 LINES: dict[int, Form] = {
     0x01: Form("load", _read_load, _load_words),
     0x02: Form("add", _read_add, _add_words),
@@ -174,6 +195,9 @@ LINES: dict[int, Form] = {
     0x09: Form("clauses", _read_clauses, _clauses_words),
     0x0A: Form("explain", _read_explain, _explain_words),
     0x0B: Form("order", _read_order, _order_words),
+    0x0C: Form("screen", _read_record, lambda facts: f"screen reads {_record_words(facts)}"),
+    0x0D: Form("planner", _read_record, lambda facts: f"planner reads {_record_words(facts)}"),
+    0x0E: Form("record", _read_choices, lambda facts: f"record {_choices_words(facts)}"),
 }
 
 
@@ -236,6 +260,9 @@ REPLIES: dict[int, Form] = {
     0x86: Form("found", _read_found, _found_words),
     0x8A: Form("reason", _read_reason, _reason_words),
     0x8B: Form("order", _read_order, _order_words),
+    0x8C: Form("screen", _read_counted_choices, _choices_words),
+    0x8D: Form("record", _read_record, _record_words),
+    0x8E: Form("record", _read_record, _record_words),
     DECLINED: Form("declined", _read_declined, "declined, {number}".format_map),
     0x01: Form("saved", _read_load, lambda facts: f"saved, to {_load_words(facts)}"),
 }
@@ -245,7 +272,7 @@ REFUSALS: dict[int, str] = {
     1: "the line is empty, has an odd count of characters or one that is not 0-9 or A-F",
     2: "the line is over {header.line_characters:,} characters",
     3: "there is no such kind",
-    4: "kinds 02 to 08, 0A and 0B on a fresh block",
+    4: "kinds 02 to 08 and 0A to 0E on a fresh block",
     5: "a field is not wholly there, or bytes are left over",
     6: "n, s, a size, m or the count of clauses is outside the ranges",
     7: "a cost, the points to add or a clause's weight are over 1,000,000, but for a cost of FFFFFF in a load of kind 01, which forbids",
@@ -258,11 +285,13 @@ REFUSALS: dict[int, str] = {
     14: "the weights' sums disagree",
     15: "the budget is outside 1 to 10,000,000",
     16: "the block has another length or is not well formed, its order of trains included",
-    17: "the reply buffer is below {header.reply_bytes} bytes, or shorter than the line that a save answers with",
+    17: "the reply buffer is below {header.reply_bytes} bytes, or shorter than the line or the record that it answers with",
     18: "a weight above 0 on a forbidden entry, after 14",
     19: "a clause has a literal of an absent train, a first literal of 0, or one train twice, of either sign",
     20: "the clauses name more than 48 pairs",
     21: "an order has not each train exactly once",
+    22: "a record's n or a choice is not the block's",
+    23: "a record's cost is not its plan's total in loaded costs, its bound is above that, or the plan has a forbidden entry",
 }
 
 

@@ -8,6 +8,7 @@ use reference::model::{self, Cost, Costs, Pair, Study, BLOCK_LENGTH, ORDER};
 use reference::operations::{self, Certificate};
 use reference::orders::order_fields;
 use reference::random::Random;
+use reference::record_lines::{read_fields, true_record, write_fields, PLANNER, SCREEN};
 use reference::rewriting::Rewriting;
 use std::iter::repeat_with;
 
@@ -111,6 +112,9 @@ fn inputs_of(size: &str, study: &Study, clauses: Vec<u8>) -> Vec<Input> {
         ("clauses", &of_clauses, clauses, "89"),
         ("explain", &held, explain_line(study), "8A"),
         ("order", &held, line_of(&order_fields(&turned.order)), "8B"),
+        ("screen", &held, read_line(study, SCREEN), "8C"),
+        ("planner", &held, read_line(study, PLANNER), "8D"),
+        ("record", &held, line_of(&write_fields(&last_choices(study))), "8E"),
         ("refused-character", &held, with_end(&longest, b"G"), "FF01"),
         ("refused-cost", &held, with_end(&longest, b"FFFFFE"), "FF07"),
         ("refused-kind", &held, b"10".to_vec(), "FF03"),
@@ -224,6 +228,16 @@ fn explain_line(study: &Study) -> Vec<u8> {
     let train = study.trains.len() - 1;
     let choice = study.trains[train].columns - 1;
     line_of(&vec![(1, 10), (1, train as i64), (1, choice as i64), (4, 0xFFFF_FFFF)])
+}
+
+/// Each train's last choice: a plan, where nothing is forbidden.
+fn last_choices(study: &Study) -> Vec<i64> {
+    study.trains.iter().map(|costs| costs.columns as i64 - 1).collect()
+}
+
+/// A line of this kind that reads the record of that plan.
+fn read_line(study: &Study, kind: i64) -> Vec<u8> {
+    line_of(&read_fields(kind, &true_record(study, last_choices(study))))
 }
 
 fn search_line(budget: i64) -> Vec<u8> {

@@ -42,8 +42,9 @@ fn print_conditions() {
          alone and the block is restored by copying outside of the timed part. The expert's walk answers\n\
          searches in loaded order alone, and checks neither line nor block.\n\
          small: document 01's J, 2 trains of 2 choices, 1 pair. full: 24 trains of 8 choices, 48 pairs, seed {},\n\
-         costs to 1000000. Search: budget {}; turned, and the order: the last train first. Refused: a wrong\n\
-         character, or a cost too high, at the very end of a load of {LONGEST_LINE} characters; a kind 10. Save: a reply of {LONGEST_LINE} characters for the full study.\n\
+         costs to 1000000. Search: budget {}; turned, and the order: the last train first. Screen, planner and\n\
+         record: of each train's last choice. Refused: a wrong character, or a cost too high, at the very end\n\
+         of a load of {LONGEST_LINE} characters; a kind 10. Save: a reply of {LONGEST_LINE} characters for the full study.\n\
          Clauses: 3 over 2 trains; 500 over 24 trains that name 48 pairs. Steps: behind a tightening, so that\n\
          the bound is above 0; fives: as full, all costs being multiples of 5.\n\
          Long search: budget {}, full studies of the seeds\n\

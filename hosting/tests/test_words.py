@@ -69,8 +69,26 @@ class Log(unittest.TestCase):
         self.assertEqual(in_words("0B 0000", "FF 15"), "order 0 0  ->  declined, 21: an order has not each train exactly once")
         self.assertEqual(in_words("0B", "FF 05").split("  ->")[0], "order")
 
+    def test_records(self) -> None:
+        record = "02 0001 000000000002 000000000003"
+        words_of = "record of choices 0 1, bound 2 points, cost 3 points"
+        self.assertEqual(in_words("0E 0001", f"8E {record}"), f"record choices 0 1  ->  {words_of}")
+        self.assertEqual(in_words(f"0C {record}", "8C 020001"), f"screen reads {words_of}  ->  choices 0 1")
+        self.assertEqual(in_words(f"0D {record}", f"8D {record}"), f"planner reads {words_of}  ->  {words_of}")
+        self.assertEqual(in_words("0C 01 00 FFFFFFFFFFFF 000000000001", "8C 0100").split("  ->")[0],
+                         "screen reads record of choices 0, bound 281,474,976,710,655 points, cost 1 point")
+
+    def test_records_that_are_declined(self) -> None:
+        self.assertEqual(in_words("0E 0002", "FF 16"), f"record choices 0 2  ->  declined, 22: {kinds.REFUSALS[22]}")
+        self.assertEqual(in_words("0D 00 000000000000 000000000000", "FF 16").split("  ->")[0], "planner reads record of choices, bound 0 points, cost 0 points")
+        self.assertEqual(in_words("0D 01 00 000000000002 000000000001", "FF 17").split("->  ")[1], f"declined, 23: {kinds.REFUSALS[23]}")
+        for line, name in (("0C", "screen"), ("0C 02", "screen"), ("0D 03 0001 000000000002 000000000003", "planner")):
+            self.assertEqual(in_words(line, "FF 05"), f"{name}, cut short  ->  declined, 5: {kinds.REFUSALS[5]}")
+        self.assertEqual(in_words("0E", "FF 05").split("  ->")[0], "record choices")
+        self.assertIn("or the record that it answers with", in_words("0E 0001", "").split("->  ")[1])
+
     def test_what_is_not_known_is_its_number(self) -> None:
-        self.assertEqual(in_words("0C 0001", "8C 0001"), "kind 0C  ->  kind 8C")
+        self.assertEqual(in_words("0F 0001", "8F 0001"), "kind 0F  ->  kind 8F")
         self.assertEqual(in_words("04", "FF 63"), "tighten  ->  declined, 99")
 
     def test_damaged_texts(self) -> None:
@@ -186,6 +204,15 @@ class Show(unittest.TestCase):
         self.assertIsNone(self.facts()["last_ceiling"]["reached"])
         self.assertIn("(line 4; line 5 added points, so its cost may be higher now)", self.text())
         self.assertIn("2/1 parts, in points 2, of the costs before the addition (line 3; line 5 added points, so it may be higher now)", self.text())
+
+    def test_a_record_is_not_what_a_search_found(self) -> None:
+        self.take("01 01 0001 02 000002 000003 00")
+        for line in ("0E 01", "0C 01 01 000000000000 000000000003", "0D 01 01 000000000000 000000000003"):
+            self.take(line)
+        self.assertEqual((self.facts()["last_plan"], self.facts()["last_ceiling"]), (None, None))
+        self.take("06 0000000A")
+        self.take("0E 01")
+        self.assertEqual((self.facts()["last_plan"]["line"], self.facts()["last_plan"]["plan"]), (5, [0]))
 
     def test_a_load_forgets_plan_and_ceiling(self) -> None:
         self.take("01 01 0001 01 000002 00")

@@ -1,5 +1,5 @@
 //! The claims of "Lists and the ledger", of saves, of rounds, of forbidden entries, of stopping at the bound, of clauses, of
-//! reasons, of bounds in steps and of orders, checked from the outside by every plan of small studies.
+//! reasons, of bounds in steps, of orders and of records, checked from the outside by every plan of small studies.
 
 use crate::generator::{Reach, Session};
 use crate::lines;
@@ -11,6 +11,7 @@ use crate::random::Random;
 use crate::rewriting::Rewriting;
 use crate::saves::Saves;
 use crate::stops::Stops;
+use crate::taken::{Asked, Taken};
 use crate::Service;
 
 /// How often each claim was put to the test.
@@ -36,6 +37,7 @@ pub struct Tally {
     pub reasons: Reasons,
     pub multiples: Multiples,
     pub orders: Orders,
+    pub taken: Taken,
     pub saves: Saves,
 }
 
@@ -401,6 +403,7 @@ pub fn demand(holds: bool, otherwise: &str) -> Result<(), String> {
 /// A call from the outside: its line, its reply, and the block before and after it.
 struct Step<'a> {
     service: Service,
+    capacity: usize,
     line: &'a [u8],
     reply: &'a [u8],
     before: &'a [i64],
@@ -412,12 +415,18 @@ impl Step<'_> {
         self.line.starts_with(kind)
     }
 
+    /// The call as one that may write or read a record: the block stays then.
+    fn asked(&self) -> Asked<'_> {
+        let Step { service, capacity, line, reply, block, .. } = *self;
+        Asked { service, block, capacity, line, reply }
+    }
+
     /// What holds of the block, before anything is known of its costs.
     fn check_change(&self) -> Result<(), String> {
         let same = self.block == self.before;
         demand(accepted(self.reply) || same, "a refused line changed the block")?;
-        let leaves = self.is(b"07") || self.is(b"0A");
-        demand(!leaves || same, "a save or a reason changed the block")?;
+        let leaves = [b"07", b"0A", b"0C", b"0D", b"0E"].into_iter().any(|kind| self.is(kind));
+        demand(!leaves || same, "a save, a reason or a record changed the block")?;
         let rewriting = self.is(b"04") || self.is(b"08");
         demand(!rewriting || self.block[3] >= self.before[3], "tighten or round lowered the constant")
     }
@@ -451,6 +460,7 @@ impl Step<'_> {
     fn check(&self, ledger: Option<&Ledger>, random: &mut Random, tally: &mut Tally) -> Result<(), String> {
         self.check_change()?;
         tally.orders.check_block(self.line, self.reply, self.before, self.block)?;
+        tally.taken.check_asked(&self.asked(), random)?;
         tally.calls += 1;
         tally.falls += usize::from(self.reply.starts_with(b"83") && self.block[3] < self.before[3]);
         let Some(ledger) = ledger else { return Ok(()) };
@@ -460,6 +470,8 @@ impl Step<'_> {
         let tariff = Tariff::of(ledger.scale, &ledger.costs);
         ledger.check_block(self.block, &plans, &tariff)?;
         tally.multiples.check_published(&tariff, self.service, self.block, &ledger.costs)?;
+        let sizes: Vec<i64> = ledger.costs.trains.iter().map(|costs| costs.columns as i64).collect();
+        tally.taken.check_ledger(&self.asked(), &sizes, &plans, tariff.bound(self.block[3]))?;
         self.check_reply(ledger, &plans, &tariff, random, tally)
     }
 
@@ -471,9 +483,10 @@ impl Step<'_> {
         random: &mut Random,
         tally: &mut Tally,
     ) -> Result<(), String> {
-        let Step { service, line, reply, before, block } = *self;
+        let Step { service, line, reply, before, block, .. } = *self;
         match reply.get(..2) {
-            None | Some(b"FF") => Ok(()),
+            // Records are checked before, with the lines that are refused.
+            None | Some(b"FF" | b"8C" | b"8D" | b"8E") => Ok(()),
             Some(b"01") => {
                 ledger.check_saved(reply)?;
                 tally.saves.check_saved(service, block, reply)
@@ -515,7 +528,7 @@ pub fn check_session(service: Service, seed: u64, calls: usize, tally: &mut Tall
         let outcome = call.run(service, &mut block);
         let (line, reply) = (&call.line[..], outcome.reply());
         feed(&mut ledger, line, reply);
-        let step = Step { service, line, reply, before: &before, block: &block };
+        let step = Step { service, capacity: call.capacity, line, reply, before: &before, block: &block };
         step.check(ledger.as_ref(), &mut random, tally).map_err(|claim| {
             let [line, reply] = [line, reply].map(String::from_utf8_lossy);
             format!("session {seed}, call {number}: {claim}\nline {line}\nreply {reply}")

@@ -8,6 +8,8 @@ use crate::operations::{self, Certificate, Shift};
 use crate::orders::{any_order, damaged, order_fields};
 use crate::random::Random;
 use crate::reasons::beside;
+use crate::record_lines::{self, any_choices, true_record, PLANNER, SCREEN, WRITE};
+use crate::records::{self, Record};
 use crate::rewriting::Rewriting;
 use crate::search;
 use crate::steps;
@@ -44,6 +46,8 @@ pub struct Session {
     most_choices: usize,
     /// The last well-formed block seen.
     good: Vec<i64>,
+    /// A record that was true of the study when it was made.
+    record: Option<Record>,
 }
 
 impl Session {
@@ -53,7 +57,7 @@ impl Session {
             Reach::SmallLines => (5, 3),
             _ => random.pick(&[(5, 3), (5, 3), (6, 8), (10, 5), (24, 8)]),
         };
-        Self { random, reach, most_trains, most_choices, good: vec![0; BLOCK_LENGTH] }
+        Self { random, reach, most_trains, most_choices, good: vec![0; BLOCK_LENGTH], record: None }
     }
 
     /// The session's next call, to be given the block that the call before left.
@@ -77,11 +81,18 @@ impl Session {
         Call { capacity, setting, line }
     }
 
-    /// A buffer's length: of a line of kind 07 mostly one beside the length of the study's load line.
+    /// A buffer's length: of a line of kind 07 mostly one beside the length of the study's load line, and of kinds 0C to 0E,
+    /// where a record is about as long as the least buffer or longer, beside that of a record.
     fn capacity(&mut self, line: &[u8], study: Option<&Study>) -> usize {
-        match study {
-            Some(study) if line.starts_with(b"07") && self.random.chance(80) => {
-                let length = 2 * lines::saved(study).len();
+        let length = match (line.get(..2), study) {
+            (Some(b"07"), Some(study)) => Some(2 * lines::saved(study).len()),
+            (Some(b"0C" | b"0D" | b"0E"), Some(study)) => {
+                Some(records::length(study.trains.len())).filter(|&length| length >= LEAST_BUFFER)
+            }
+            _ => None,
+        };
+        match length {
+            Some(length) if self.random.chance(80) => {
                 self.random.pick(&[LEAST_BUFFER, length - 1, length, length + 1, LONGEST_REPLY])
             }
             _ => match self.random.below(12) {
@@ -95,7 +106,7 @@ impl Session {
     }
 
     fn setting(&mut self, block: &[i64]) -> Setting {
-        match self.random.below(13) {
+        match self.random.below(14) {
             0 => {
                 let near = BLOCK_LENGTH - 1 + 2 * self.random.below(2);
                 let far = self.random.below(2 * BLOCK_LENGTH);
@@ -116,6 +127,7 @@ impl Session {
                     4 => mispair(&mut self.random, &mut study),
                     9 | 10 => self.beside_bound(&mut study),
                     12 => study.order = any_order(&mut self.random, &study.order),
+                    13 => self.beside_cost(&mut study),
                     _ => self.foreign(&mut study),
                 }
                 if self.random.chance(20) {
@@ -232,6 +244,33 @@ impl Session {
         study.trains[0].permitted_mut().for_each(|cost| cost.held = held(0));
     }
 
+    /// Gives the study a c0 by which the published bound is what a plan costs in H, or is a step or more away from it. The plan
+    /// is that of the session's record.
+    fn beside_cost(&mut self, study: &mut Study) {
+        let random = &mut self.random;
+        let record = true_record(study, any_choices(random, study));
+        let step = study.scale * steps::step(study);
+        let near = random.pick(&[-step, 1 - step, 0, 0, 1, 1, 1, step, step + 1]);
+        study.constant = (study.scale * record.cost + near).clamp(0, TOP);
+        self.record = Some(record);
+    }
+
+    /// The session's record, if its choices are the study's.
+    fn held_record(&self, study: &Study) -> Option<&Record> {
+        self.record.as_ref().filter(|record| records::plan(study, &record.choices).is_ok())
+    }
+
+    /// Whether the session's record is of a plan that the published bound meets or passes, or that costs something else now, or
+    /// whether every record of the study is about as long as the least buffer or longer.
+    fn records_matter(&self, study: &Study) -> bool {
+        let aside = |record: &Record| {
+            let now = true_record(study, record.choices.clone());
+            now.cost <= now.bound || now.cost != record.cost
+        };
+        let long = records::length(study.trains.len()) >= LEAST_BUFFER;
+        long || self.held_record(study).is_some_and(aside)
+    }
+
     /// A line of any kind, mostly one that a service with this study accepts.
     fn line(&mut self, study: Option<&Study>) -> Vec<u8> {
         if self.random.chance(4) {
@@ -267,17 +306,19 @@ impl Session {
             }
         };
         let in_steps = study.bound() > study.points(study.constant);
-        match self.random.below(33) {
+        match self.random.below(38) {
             _ if load => load_fields(study),
             _ if in_steps && self.random.chance(30) => vec![(1, 6), (4, self.budget(study))],
-            0..=3 => self.add(study),
-            4..=8 => self.shift(study),
-            9..=11 => vec![(1, 4)],
-            12..=15 => certificate_fields(&self.certificate(study)),
-            16..=18 => vec![(1, 7)],
-            19..=21 => vec![(1, 8)],
-            22..=24 => self.question(study),
-            25..=27 => self.order(study),
+            _ if self.records_matter(study) && self.random.chance(16) => self.record(study, 80),
+            0..=4 => self.add(study),
+            5..=9 => self.shift(study),
+            10..=12 => vec![(1, 4)],
+            13..=16 => certificate_fields(&self.certificate(study)),
+            17..=19 => vec![(1, 7)],
+            20..=22 => vec![(1, 8)],
+            23..=25 => self.question(study),
+            26..=28 => self.order(study),
+            29..=32 => self.record(study, 40),
             _ => vec![(1, 6), (4, self.budget(study))],
         }
     }
@@ -299,7 +340,12 @@ impl Session {
             return clique(random);
         }
         let full = self.most_trains == 24 && random.chance(40);
-        let n = if full { 24 } else { 1 + random.below(self.most_trains) };
+        let n = match self.most_trains {
+            24 if full => 24,
+            // A record of 22 trains is as long as the least buffer, one of 23 is longer.
+            24 if random.chance(60) => random.pick(&[22, 23, 23]),
+            most => 1 + random.below(most),
+        };
         let sizes: Vec<usize> =
             (0..n).map(|_| if full { 8 } else { 1 + random.below(self.most_choices) }).collect();
         let scale = scale(random);
@@ -325,10 +371,15 @@ impl Session {
     }
 
     fn add(&mut self, study: &Study) -> Fields {
+        let recorded = self.held_record(study).map(|record| record.choices.clone());
         let random = &mut self.random;
-        let (train, choice) = match random.below(8) {
-            0 | 1 => highest(study),
-            2 => hopeless(random, study).unwrap_or_else(|| any_choice(random, study)),
+        let (train, choice) = match (random.below(8), recorded) {
+            (0 | 1, _) => highest(study),
+            (2, _) => hopeless(random, study).unwrap_or_else(|| any_choice(random, study)),
+            (3, Some(choices)) => {
+                let train = random.below(choices.len());
+                (train, choices[train] as usize)
+            }
             _ => any_choice(random, study),
         };
         let none = Cost { loaded: 0, held: 0 };
@@ -388,6 +439,22 @@ impl Session {
             true => damaged(random, &order),
             false => order_fields(&order),
         }
+    }
+
+    /// A line that writes a record, or reads one: with this chance the record that the session has, perhaps from before an
+    /// addition or of another study, else one of a plan of the study, which the session then has.
+    fn record(&mut self, study: &Study, chance: u64) -> Fields {
+        let random = &mut self.random;
+        let kind = random.pick(&[SCREEN, SCREEN, PLANNER, PLANNER, PLANNER, WRITE, WRITE]);
+        let mut record = match self.record.take() {
+            Some(record) if random.chance(chance) => record,
+            _ => true_record(study, any_choices(random, study)),
+        };
+        if kind == WRITE && records::plan(study, &record.choices).is_ok() {
+            record = true_record(study, record.choices);
+        }
+        self.record = Some(record.clone());
+        record_lines::any_fields(random, study, kind, record)
     }
 
     fn shift(&mut self, study: &Study) -> Fields {
@@ -516,7 +583,8 @@ impl Session {
             _ => random
                 .pick(&[
                     "00", "10", "81", "FF", "1", "01", "02", "03", "0400", "05", "06", "0700", "070707",
-                    "0800", "080808", "09", "0901", "0A", "0A00", "0A0000", "0B", "0B00", "0C",
+                    "0800", "080808", "09", "0901", "0A", "0A00", "0A0000", "0B", "0B00", "0C", "0C00", "0D",
+                    "0D01", "0E", "0E00", "0F",
                 ])
                 .into(),
         }

@@ -15,17 +15,21 @@ pub mod orders;
 pub mod product;
 pub mod random;
 pub mod reasons;
+pub mod record_lines;
+pub mod records;
 pub mod rewriting;
 pub mod saves;
 pub mod search;
 pub mod steps;
 pub mod stops;
 pub mod studies;
+pub mod taken;
 pub mod weights;
 
 use lines::{Fields, Kind, LONGEST_LINE};
 use model::{Refusal, Study, BLOCK_LENGTH};
 use reasons::Reason;
+use records::Record;
 use search::End;
 use std::error::Error;
 use std::io::{self, BufRead, Write};
@@ -34,7 +38,8 @@ use std::process::ExitCode;
 /// "reply buffer below 72 bytes" is number 17.
 pub const LEAST_BUFFER: usize = 72;
 
-/// The longest reply is the longest load line that a save may answer with; every other fits in the least buffer.
+/// The longest reply is the longest load line that a save may answer with. Of the others only a record of 23 or 24 trains is
+/// longer than the least buffer.
 pub const LONGEST_REPLY: usize = LONGEST_LINE;
 
 /// A service: line, lent block, lent reply buffer; gives the number of bytes written to its front.
@@ -49,7 +54,8 @@ pub fn answer(line: &[u8], block: &mut [i64], reply: &mut [u8]) -> usize {
     // "A declined line answers FF and the number as one byte."
     let bytes = respond(line, block).unwrap_or_else(|refusal| vec![0xFF, refusal as u8]);
     let digits = lines::digits(&bytes);
-    // Of a save: "where it doesn't fit, the answer is 17, judged after 5." It has changed nothing.
+    // Of a save: "where it doesn't fit, the answer is 17, judged after 5." Of a record "17 as for a save comes last". Neither
+    // has changed anything.
     if digits.len() > reply.len() {
         return 0;
     }
@@ -60,7 +66,7 @@ pub fn answer(line: &[u8], block: &mut [i64], reply: &mut [u8]) -> usize {
 /// The reply's bytes. The block is written only where a line of kinds 01 to 04, 08, 09 or 0B is accepted.
 fn respond(line: &[u8], block: &mut [i64]) -> Result<Vec<u8>, Refusal> {
     // "Order: 17, 16, 2, 1, 3, 4. Then fields from left to right ... Then 10, 12 or 14." Change 7: "20 ..., after 5 and
-    // before 10." Change 10: "21 ..., after 5."
+    // before 10." Change 10: "21 ..., after 5." Change 11: 22 and 23 "follow 5, 22 first".
     let state = model::decode(block)?;
     let (kind, fields) = lines::open(line)?;
     let present = || state.ok_or(Refusal::Fresh);
@@ -88,14 +94,12 @@ fn respond(line: &[u8], block: &mut [i64]) -> Result<Vec<u8>, Refusal> {
         // "Certify and search change nothing in the block."
         Kind::Certify => certify(&present()?, fields),
         Kind::Search => search(&present()?, fields),
-        // "Kind 07, with no fields, answers with a load line for H." It changes nothing in the block.
-        Kind::Save => {
-            let study = present()?;
-            fields.end()?;
-            Ok(lines::saved(&study))
-        }
+        Kind::Save => save(&present()?, fields),
         Kind::Explain => explain(&present()?, fields),
         Kind::Order => order(present()?, fields, block),
+        Kind::Screen => screen(&present()?, fields),
+        Kind::Planner => planner(&present()?, fields),
+        Kind::Record => record(&present()?, fields),
     }
 }
 
@@ -152,6 +156,12 @@ fn search(study: &Study, fields: Fields) -> Result<Vec<u8>, Refusal> {
     Ok(bytes)
 }
 
+/// "Kind 07, with no fields, answers with a load line for H." It changes nothing in the block.
+fn save(study: &Study, fields: Fields) -> Result<Vec<u8>, Refusal> {
+    fields.end()?;
+    Ok(lines::saved(study))
+}
+
 /// "The reply is 8A, reason, train, the last FF unless 02." It changes nothing in the block.
 fn explain(study: &Study, fields: Fields) -> Result<Vec<u8>, Refusal> {
     let (reason, train) = match reasons::reason(study, &lines::question(fields, study)?) {
@@ -168,6 +178,28 @@ fn order(mut study: Study, fields: Fields, block: &mut [i64]) -> Result<Vec<u8>,
     study.encode(block);
     let numbers = study.order.iter().map(|&train| train as u8);
     Ok([0x8B].into_iter().chain(numbers).collect())
+}
+
+/// "Kind 0C reads one for screens: 8C, n and choices." 22, and "23 ... (never for 0C)": no bound or cost is looked at.
+fn screen(study: &Study, fields: Fields) -> Result<Vec<u8>, Refusal> {
+    let record = lines::record(fields)?;
+    records::plan(study, &record.choices)?;
+    Ok(record.front(0x8C))
+}
+
+/// "Kind 0D reads one for planners: 8D and the record", as it was read.
+fn planner(study: &Study, fields: Fields) -> Result<Vec<u8>, Refusal> {
+    let record = lines::record(fields)?;
+    record.judge(study)?;
+    Ok(record.whole(0x8D))
+}
+
+/// "Kind 0E with n choices ... writes one (8E, record), with the published bound." A bound above the plan's total, which only
+/// blocks that no line makes have, is 23 here too.
+fn record(study: &Study, fields: Fields) -> Result<Vec<u8>, Refusal> {
+    let record = Record::of(study, lines::choices(fields, study)?)?;
+    record.judge(study)?;
+    Ok(record.whole(0x8E))
 }
 
 /// "A program reads standard input, starts fresh, and prints a reply line for each input line; a

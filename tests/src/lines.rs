@@ -4,6 +4,7 @@ use crate::clauses::{Clause, Clauses};
 use crate::model::{self, Costs, Pair, Refusal, Study, COSTS, PAIRS, SCALES, SIZES, TRAINS};
 use crate::operations::{Add, Certificate, Shift};
 use crate::reasons::Question;
+use crate::records::Record;
 use std::ops::RangeInclusive;
 
 /// "over 19,834 characters" is 2.
@@ -31,6 +32,9 @@ pub enum Kind {
     Clauses,
     Explain,
     Order,
+    Screen,
+    Planner,
+    Record,
 }
 
 /// The bytes behind the kind, read from the left.
@@ -137,6 +141,9 @@ pub fn open(line: &[u8]) -> Result<(Kind, Fields), Refusal> {
         9 => Kind::Clauses,
         10 => Kind::Explain,
         11 => Kind::Order,
+        12 => Kind::Screen,
+        13 => Kind::Planner,
+        14 => Kind::Record,
         _ => return Err(Refusal::NoSuchKind),
     };
     Ok((kind, Fields { bytes, next: 1 }))
@@ -270,4 +277,21 @@ pub fn order(mut fields: Fields, study: &Study) -> Result<Vec<usize>, Refusal> {
     let numbers = fields.numbers(study.trains.len(), 1)?;
     fields.end()?;
     model::order(&numbers).ok_or(Refusal::Order)
+}
+
+/// "n, n choices, bound (6), cost (6)." "A record read is as long as its own first byte says", whatever the block's n is.
+/// Nothing is judged while it is read: 22 and 23 "follow 5".
+pub fn record(mut fields: Fields) -> Result<Record, Refusal> {
+    let count = fields.number(1)? as usize;
+    let choices = fields.numbers(count, 1)?;
+    let [bound, cost] = [fields.number(6)?, fields.number(6)?];
+    fields.end()?;
+    Ok(Record { choices, bound, cost })
+}
+
+/// "Kind 0E with n choices, n being the block's." "9 not used": no choice is judged by itself.
+pub fn choices(mut fields: Fields, study: &Study) -> Result<Vec<i64>, Refusal> {
+    let choices = fields.numbers(study.trains.len(), 1)?;
+    fields.end()?;
+    Ok(choices)
 }

@@ -49,6 +49,10 @@ pub enum Refusal {
     Pairs = 20,
     /// "Not each train exactly once, after 5."
     Order = 21,
+    /// "n or a choice not the block's."
+    NotHeld = 22,
+    /// "Cost isn't the plan's total in H, bound above it, or a forbidden entry."
+    Figures = 23,
 }
 
 /// The cost of a permitted entry: H in points, T in parts.

@@ -33,7 +33,7 @@ pub fn mixture(random: &mut Random, study: &Study) -> Certificate {
 }
 
 /// A choice of a train, mostly a permitted one.
-fn choice(random: &mut Random, costs: &Costs) -> usize {
+pub fn choice(random: &mut Random, costs: &Costs) -> usize {
     let permitted: Vec<usize> =
         (0..costs.columns).filter(|&choice| costs.entries[choice].is_some()).collect();
     match permitted.is_empty() || random.chance(10) {

@@ -1,4 +1,4 @@
-//! The document's claims on sessions of small studies, saves on sessions of every size, and the generator's reach.
+//! The document's claims on sessions of small studies, saves and records on sessions of every size, and the generator's reach.
 
 use reference::claims::{check_session, Ceilings, Forbidden, Reasons, Tally};
 use reference::generator::sessions;
@@ -10,6 +10,7 @@ use reference::operations;
 use reference::orders::Orders;
 use reference::saves::Saves;
 use reference::stops::Stops;
+use reference::taken::Taken;
 use reference::LEAST_BUFFER;
 use std::cmp::Ordering;
 use std::collections::BTreeMap;
@@ -37,6 +38,7 @@ fn the_claims_hold_by_every_plan() {
     assert!(lines > 1_500 && changes > 800 && loads > 400 && left > 5_000, "{tally:?}");
     assert!(studies[0] > 2_000 && studies[1] > 600 && saved == studies[0] + studies[1], "{tally:?}");
     assert!(plans > 80 && counts > 4_000 && spent > 400, "{tally:?}");
+    were_tested(&tally.taken);
     let Literals { lines, differing, paired, added_up, weightless, on_fresh, over_forbidden } = tally.clauses;
     assert!(lines > 300 && of_clauses == lines && differing > 180 && paired > 170, "{tally:?}");
     assert!(added_up > 160 && weightless > 140 && on_fresh > 50 && over_forbidden > 90, "{tally:?}");
@@ -58,6 +60,32 @@ fn the_claims_hold_by_every_plan() {
     assert!(calls > 5_000 && without_plan > 2_000 && adds > 100 && rounds > 500, "{tally:?}");
     assert!(limits.iter().all(|&limit| limit > 30), "{tally:?}");
     assert!(ended > 200 && ended_without > 200 && spent_without_any > 100, "{tally:?}");
+}
+
+/// Each claim about records was put to the test.
+fn were_tested(taken: &Taken) {
+    let Taken { written, ordered, forbidden, screens, screens_only, both, .. } = taken;
+    assert!(*written > 500 && *ordered > 80 && *forbidden > 80, "{taken:?}");
+    assert!(screens.iter().all(|&count| count > 500) && *screens_only > 300 && *both > 1_000, "{taken:?}");
+    let Taken { shown, tight, lower, higher, barred, not_held, planners_refused, writes_refused, .. } = taken;
+    assert!(shown.iter().all(|&count| count > 500) && tight.iter().all(|&count| count > 300), "{taken:?}");
+    assert!(*lower > 40 && *higher > 15 && *barred > 150 && *not_held > 600, "{taken:?}");
+    assert!(planners_refused.iter().all(|&count| count > 50) && *writes_refused > 150, "{taken:?}");
+}
+
+/// What is said of records on blocks that no line makes too, in buffers as long as a record.
+#[test]
+fn records_hold_on_every_block() {
+    let mut taken = Taken::default();
+    for seed in 0..80 {
+        if let Err(claim) = taken.check_session(reference::answer, seed, 50) {
+            panic!("{claim}");
+        }
+    }
+    let Taken { written, long, ordered, forbidden, screens, blocks, .. } = taken;
+    assert!(written > 1_000 && long > 100 && ordered > 300 && forbidden > 300, "{taken:?}");
+    assert!(screens.iter().all(|&count| count > 50), "{taken:?}");
+    assert!(blocks.iter().all(|&count| count > 400), "{taken:?}");
 }
 
 #[test]
@@ -106,7 +134,7 @@ impl SaveBuffers {
 #[test]
 fn the_generator_reaches_every_buffer_of_a_save() {
     let mut seen = SaveBuffers::default();
-    sessions(600, |call, _, outcome| {
+    sessions(900, |call, _, outcome| {
         if call.line.starts_with(b"07") && call.capacity >= LEAST_BUFFER {
             if let Ok(Some(study)) = decode(&outcome.block) {
                 let length = 2 * saved(&study).len();
@@ -264,6 +292,26 @@ fn the_generator_reaches_every_round() {
     assert!([highest, above, constants, entries].iter().all(|&count| count > 20), "{seen:?}");
 }
 
+/// The kinds, known and unknown, with their refusals.
+const REFUSALS: [(&str, &[u8]); 16] = [
+    ("01", &[1, 5, 6, 7, 8, 16]),
+    ("02", &[1, 4, 5, 7, 9, 10, 12, 16]),
+    ("03", &[1, 4, 5, 11, 12, 16]),
+    ("04", &[1, 4, 5, 12, 16]),
+    ("05", &[1, 4, 5, 13, 14, 16, 18]),
+    ("06", &[1, 4, 5, 15, 16]),
+    ("07", &[1, 4, 5, 16]),
+    ("08", &[1, 4, 5, 12, 16]),
+    ("09", &[1, 5, 6, 7, 10, 16, 19, 20]),
+    ("0A", &[1, 4, 5, 9, 16]),
+    ("0B", &[1, 4, 5, 16, 21]),
+    ("0C", &[1, 4, 5, 16, 22]),
+    ("0D", &[1, 4, 5, 16, 22, 23]),
+    ("0E", &[1, 4, 5, 16, 22, 23]),
+    ("00", &[2, 3]),
+    ("10", &[3]),
+];
+
 #[test]
 fn the_generator_reaches_every_answer() {
     let mut seen: BTreeMap<(String, String), usize> = BTreeMap::new();
@@ -278,21 +326,7 @@ fn the_generator_reaches_every_answer() {
         let count = seen.get(&(kind.into(), start.into())).copied().unwrap_or(0);
         assert!(count >= 3, "{start} for {kind:?}: {count}");
     };
-    for (kind, numbers) in [
-        ("01", &[1, 5, 6, 7, 8, 16][..]),
-        ("02", &[1, 4, 5, 7, 9, 10, 12, 16]),
-        ("03", &[1, 4, 5, 11, 12, 16]),
-        ("04", &[1, 4, 5, 12, 16]),
-        ("05", &[1, 4, 5, 13, 14, 16, 18]),
-        ("06", &[1, 4, 5, 15, 16]),
-        ("07", &[1, 4, 5, 16]),
-        ("08", &[1, 4, 5, 12, 16]),
-        ("09", &[1, 5, 6, 7, 10, 16, 19, 20]),
-        ("0A", &[1, 4, 5, 9, 16]),
-        ("0B", &[1, 4, 5, 16, 21]),
-        ("00", &[2, 3]),
-        ("10", &[3]),
-    ] {
+    for (kind, numbers) in REFUSALS {
         numbers.iter().for_each(|number| often(kind, &format!("FF{number:02X}")));
         // "Kind 07 ... answers with a load line."
         let shown = match kind {

@@ -309,7 +309,7 @@ impl Watch {
 #[test]
 fn the_generator_reaches_every_step() {
     let mut watch = Watch::default();
-    sessions(1_200, |call, given, outcome| watch.call(call, given, outcome));
+    sessions(1_600, |call, given, outcome| watch.call(call, given, outcome));
     assert!(watch.higher >= 200, "{}", watch.higher);
     watch.seen.each_over(5);
 }

@@ -24,4 +24,5 @@ pub mod Steps
 pub mod Limits
 pub mod BlockLimits
 pub mod Order
+pub mod Records
 pub mod PlanCosts

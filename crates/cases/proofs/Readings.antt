@@ -1,5 +1,5 @@
 -- Lines that are read, and the number under which each is declined, 0 where it is accepted: document 01's examples of 'What is declined' that the reader judges, 11 with the limits of document 02, change 3; lines that only a later rule declines, marked cases 11 and 12; FFFFFF in a
--- load, FFFFFE, FFFFFF in an add (change 5); lines of clauses (change 7); train, choice and limit (change 8); orders (change 10).
+-- load, FFFFFE, FFFFFF in an add (change 5); lines of clauses (change 7); train, choice and limit (change 8); orders (change 10); records (change 11).
 use mathlib.Core.Bool.{Bool, true, ◌&&◌}
 use mathlib.Core.List.{List, [], ◌∷◌, ◌++◌}
 use Prim.Native.Nat.{ℕ}
@@ -43,7 +43,7 @@ table =
     ∷ row "ff" fresh 1
     ∷ long "" 19835 fresh 2
     ∷ row "FF" fresh 3
-    ∷ row "0C" j 3
+    ∷ row "0F" j 3
     ∷ row "10" j 3
     ∷ row "07" fresh 4
     ∷ row "0700" fresh 4
@@ -117,6 +117,31 @@ table =
     ∷ row "0B0002" j 21
     ∷ row "0B00FF" j 21
     ∷ row "0B0100" j 0
+    ∷ row "0C020001000000000000000000000002" fresh 4
+    ∷ row "0C" fresh 4
+    ∷ row "0C" j 5
+    ∷ row "0C02" j 5
+    ∷ row "0C0200010000000000000000000000" j 5
+    ∷ row "0C02000100000000000000000000000200" j 5
+    ∷ row "0C00000000000000000000000000" j 22
+    ∷ row "0C01000000000000000000000000000002" j 5
+    ∷ row "0C0100000000000000000000000002" j 22
+    ∷ row "0C03000100000000000002000000000002" j 22
+    ∷ row "0C020002000000000003000000000001" j 22
+    ∷ row "0C0200FF000000000003000000000001" j 22
+    ∷ row "0C020001FFFFFFFFFFFF123456789ABC" j 0
+    ∷ row "0D020000000000000003000000000001" fresh 4
+    ∷ row "0D02000000000000000300000000000" j 1
+    ∷ row "0D0200000000000000030000000000" j 5
+    ∷ row "0D020200000000000003000000000001" j 22
+    ∷ row "0D020001000000000003000000000002" j 0
+    ∷ row "0E0001" fresh 4
+    ∷ row "0E" j 5
+    ∷ row "0E00" j 5
+    ∷ row "0E000100" j 5
+    ∷ row "0E0002" j 22
+    ∷ row "0E0200" j 22
+    ∷ row "0E0100" j 0
     ∷ []
 
 pub table_right : T (every table)

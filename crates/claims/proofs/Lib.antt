@@ -8,6 +8,7 @@ pub mod Kept
 pub mod Found
 pub mod SaveClaims
 pub mod RoundClaims
+pub mod RecordClaims
 pub mod Steps
 pub mod After
 pub mod Demand
@@ -19,7 +20,9 @@ pub mod Forbidden
 pub mod Stops
 pub mod BoundSteps
 pub mod Orders
+pub mod Records
 pub mod ByComputing
 pub mod Uses
 pub mod UsesForbidden
 pub mod UsesSteps
+pub mod UsesRecords

@@ -8,7 +8,7 @@ use Prim.Native.Nat.{ℕ, ◌*◌, ◌-◌, ◌<◌, ◌≤◌, ◌^◌}
 use native.Mathlib.Omega.{arith}
 use lib.Dec.{eqb}
 use lib.IntN.{ℤ}
-use lib.ListN.{length, get_or}
+use lib.ListN.{length, get_or, drop}
 use borrow.Author.Tests.{not-true, ne_eqb}
 use Rattle.theory.specs.Lists.{nth}
 use Rattle.theory.specs.Order.{each_once}
@@ -17,7 +17,7 @@ use Rattle.theory.proofs.Range.{not_both, both_true}
 use Rattle.refusals.specs.declared.Refusal.{Refusal}
 use Rattle.refusals.specs.Refusals.{refusal_number}
 use Rattle.tables.specs.Block.{max_trains, constant}
-use Rattle.tables.specs.Plans.{Shape, IsPlan, Open, Branches, LeastOf, choices_of}
+use Rattle.tables.specs.Plans.{Shape, IsPlan, Open, Branches, LeastOf, plan_open, choices_of}
 use Rattle.tables.proofs.Plans.{plan_cong}
 use Rattle.bounds.specs.Bounds.{bound_of}
 use Rattle.certificates.specs.declared.certify.Ceiling.{Ceiling}
@@ -30,23 +30,25 @@ use Rattle.reasons.specs.declared.Reason.TheVariants.{Neither, Own, Partner}
 use Rattle.reasons.specs.Reasons.{no_partner, reason_number, reason_train}
 use Rattle.lines.specs.declared.kind.Kind.{Kind}
 use Rattle.lines.specs.Kinds.{new_kind}
-use Rattle.lines.specs.Layout.{kind_of, explain_train, explain_choice, explain_limit, order_train}
+use Rattle.lines.specs.Layout.{kind_width, kind_of, explain_train, explain_choice, explain_limit, order_train, figure_width, record_choice, record_bound, record_cost, plan_choice}
+use Rattle.lines.specs.Text.{record_digits}
 use Rattle.search.specs.declared.answer.Found.{Found}
 use Rattle.search.specs.Answer.{is_found, found_cost, found_plan}
-use Rattle.replies.specs.Replies.{refusal_reply, figure_width, choice_width, flag, bound_reply, certify_reply, shown_cost, shown_choice, search_reply, reason_reply, order_reply}
+use Rattle.replies.specs.Replies.{refusal_reply, choice_width, flag, bound_reply, certify_reply, shown_cost, shown_choice, search_reply, reason_reply, order_reply, screen_reply, record_reply}
 use Rattle.replies.specs.Shown.{kind_shown, accepted, says_ended, says_ended_without, cost_shown, plan_shown, shows_plan, order_shown}
-use Rattle.replies.proofs.ReadBack.{refusal_number_lem, constant-shown, bound_shown_lem, certify_flag, certify_weighted, certify_full_weight_lem, search_ended, search_without, search_cost, search_plan, reason-shown, train-shown, order-shown}
+use Rattle.replies.proofs.ReadBack.{refusal_number_lem, constant-shown, bound_shown_lem, certify_flag, certify_weighted, certify_full_weight_lem, search_ended, search_without, search_cost, search_plan, reason-shown, train-shown, order-shown, screen_trains, screen_choice, record_behind, record_trains_shown, record_choice_shown, record_bound_shown, record_cost_shown}
 use Rattle.service.specs.Calls.{exchange}
 use Rattle.claims.specs.Ledger.{Ledger, by_kind, cost_of}
-use Rattle.claims.specs.Claims.{PlanOf, DeclinedAs, outside, malformed, scaled_cost, start_costs, BoundClaim, CeilingClaim, SearchClaim, RoundClaim, Partners, ExplainClaim, OrderClaim, Claim, shown_kind, never_outside, AtCall}
+use Rattle.claims.specs.Claims.{PlanOf, DeclinedAs, outside, figures, malformed, scaled_cost, start_costs, BoundClaim, CeilingClaim, SearchClaim, RoundClaim, Partners, ExplainClaim, OrderClaim, ScreenClaim, RecordClaim, PlannerClaim, WrittenClaim, Claim, shown_kind, never_outside, writes_record, AtCall}
 use Rattle.claims.proofs.ByKind.{reply_low}
 
 -- ---- a call, from its line
 
 module _ (g : Ledger) (b : List ℤ) (l reply : List ℕ) where
-  -- a reply that is not accepted, which declines with another number
-  pub at_refused : accepted reply ≡ false → (by_kind never_outside false l ≡ true → Open g.shape → DeclinedAs outside reply → ⊥) → (DeclinedAs malformed reply → ⊥) → AtCall g b (exchange l reply)
-  at_refused e n m = record { line = λ a. absurd (not_both a e); never-outside = n; never-malformed = m }
+  -- a reply that is not accepted, which declines with another number, or with 23 a plan that has a forbidden entry
+  pub at_refused : accepted reply ≡ false → (by_kind never_outside false l ≡ true → Open g.shape → DeclinedAs outside reply → ⊥)
+      → (by_kind writes_record false l ≡ true → DeclinedAs figures reply → plan_open g.shape (plan_choice l) ≡ false) → (DeclinedAs malformed reply → ⊥) → AtCall g b (exchange l reply)
+  at_refused e n u m = record { line = λ a. absurd (not_both a e); never-outside = n; unwritten = u; never-malformed = m }
 
   -- a reply under the line's own kind, which is no refusal
   pub at_accepted : (k : Kind) → new_kind (kind_of l) ≡ Ok k → kind_shown reply ≡ shown_kind k → Claim k g b (exchange l reply) → AtCall g b (exchange l reply)
@@ -55,13 +57,14 @@ module _ (g : Ledger) (b : List ℤ) (l reply : List ℕ) where
       record {
         line = λ _. record { kind = k; known = known; answered = shown; claim = claim };
         never-outside = λ _ _ d. omega (arith, d.0, shown, reply_low k);
+        unwritten = λ _ d. absurd (omega (arith, d.0, shown, reply_low k));
         never-malformed = λ d. omega (arith, d.0, shown, reply_low k);
       }
 
 -- a refusal shows its own number
-pub other_refusal : (r : Refusal) (n : ℕ) → (refusal_number r ≡ n → ⊥) → DeclinedAs n (refusal_reply r) → ⊥
+pub refused_as : (r : Refusal) (n : ℕ) → DeclinedAs n (refusal_reply r) → refusal_number r ≡ n
 unfolding DeclinedAs
-other_refusal r n m d = m (sym (refusal_number_lem r) ∙ d.1)
+refused_as r n d = sym (refusal_number_lem r) ∙ d.1
 
 -- an empty reply shows none
 pub empty_shows : (n : ℕ) → DeclinedAs n [] → ⊥
@@ -219,3 +222,67 @@ order_claim g l trains e few once same =
   where
     shown : (d : ℕ) → d < g.shape.trains → order_shown (order_reply trains) d ≡ nth trains d
     shown d h = order-shown trains d (omega (arith, e)) (omega (arith, few, order_below {order = nth trains} (record { once = once }) d h))
+
+-- 8C to 8E: a list that has a choice of the ledger for each train
+pub record Chosen (g : Ledger) (choices : List ℕ) : Type 0 where
+  pub trains : length choices ≡ g.shape.trains
+  pub few : g.shape.trains ≤ max_trains
+  pub there : (i : ℕ) → i < g.shape.trains → nth choices i < g.shape.size i
+  pub small : (i : ℕ) → i < g.shape.trains → nth choices i < 256
+
+-- 8C: as the line has them
+pub screen_claim : (g : Ledger) (l : List ℕ) (choices : List ℕ) → Chosen g choices → ((i : ℕ) → i < g.shape.trains → nth choices i ≡ record_choice l i)
+    → ScreenClaim g (exchange l (screen_reply choices))
+screen_claim g l choices c same =
+    record {
+      trains = screen_trains choices (omega (arith, c.trains, c.few)) ∙ c.trains;
+      there = λ i h. omega (arith, shown i h, c.there i h);
+      same = λ i h. shown i h ∙ same i h;
+    }
+  where
+    shown : (i : ℕ) → i < g.shape.trains → record_choice (screen_reply choices) i ≡ nth choices i
+    shown i h = screen_choice choices i (omega (arith, c.trains)) (c.small i h)
+
+-- 8D and 8E: they are a plan, with its cost and a bound that is not above it
+pub record RightFigures (g : Ledger) (choices : List ℕ) (bound cost : ℕ) : Type 0 where
+  pub plan : PlanOf g (nth choices)
+  pub inside : (j : ℕ) → j < g.shape.pairs → (g.shape.first j < g.shape.trains) × (g.shape.second j < g.shape.trains)
+  pub total : cost ≡ cost_of g (nth choices)
+  pub covers : bound ≤ cost
+  pub low : cost < 256 ^ figure_width
+
+module _ (g : Ledger) (l : List ℕ) (kind : Kind) (choices : List ℕ) (bound cost : ℕ) (c : Chosen g choices) (f : RightFigures g choices bound cost) where
+  abbrev shown_record : List ℕ
+  shown_record = record_reply kind choices bound cost
+
+  fewer : length choices < 256
+  fewer = omega (arith, c.trains, c.few)
+
+  recorded_choice : (i : ℕ) → i < g.shape.trains → record_choice shown_record i ≡ nth choices i
+  recorded_choice i h = record_choice_shown kind choices bound cost i (omega (arith, c.trains)) (c.small i h)
+
+  recorded_bound : record_bound shown_record ≡ bound
+  recorded_bound = record_bound_shown kind choices bound cost fewer (omega (arith, f.covers, f.low))
+
+  recorded_cost : record_cost shown_record ≡ cost
+  recorded_cost = record_cost_shown kind choices bound cost fewer f.low
+
+  recorded_total : record_cost shown_record ≡ cost_of g (record_choice shown_record)
+  recorded_total = recorded_cost ∙ f.total ∙ plan_cong g.shape g.costs (nth choices) (record_choice shown_record) (λ i h. sym (recorded_choice i h)) f.inside
+
+  record_claim : RecordClaim g (exchange l shown_record)
+  record_claim =
+      record {
+        trains = record_trains_shown kind choices bound cost fewer ∙ c.trains;
+        plan = plan_as g.shape (nth choices) (record_choice shown_record) recorded_choice f.inside f.plan;
+        cost = recorded_total;
+        bound = omega (arith, recorded_bound, recorded_cost, f.covers);
+      }
+
+  -- 8D: the record that stands in the line
+  pub planner_claim : record_digits choices bound cost ≡ drop (2 * kind_width) l → PlannerClaim g (exchange l shown_record)
+  planner_claim again = record { right = record_claim; same = record_behind kind choices bound cost ∙ again }
+
+  -- 8E: with a bound that is at most every plan's cost
+  pub written_claim : ((i : ℕ) → i < g.shape.trains → nth choices i ≡ plan_choice l i) → ((x : ℕ → ℕ) → PlanOf g x → bound ≤ cost_of g x) → WrittenClaim g (exchange l shown_record)
+  written_claim same low = record { right = record_claim; same = λ i h. recorded_choice i h ∙ same i h; low = λ x p. rw recorded_bound (low x p) }

@@ -15,13 +15,13 @@ use Rattle.theory.proofs.Lists.{list_length, list_nth}
 use Rattle.theory.proofs.Order.{once_cong}
 use Rattle.theory.proofs.Range.{not_both}
 use Rattle.refusals.specs.declared.Refusal.{Refusal}
-use Rattle.refusals.specs.declared.Refusal.TheVariants.{CostAbove, PartsOutside, Sums, ForbiddenWeight, PairsAbove}
+use Rattle.refusals.specs.declared.Refusal.TheVariants.{CostAbove, PartsOutside, Sums, ForbiddenWeight, PairsAbove, Figures}
 use Rattle.refusals.specs.Verdicts.{Verdict, Fine, Declined, settled, unless}
 use Rattle.refusals.specs.Refusals.{refusal_number}
 use Rattle.tables.specs.Block.{max_trains, max_pairs, max_cost, max_parts, trains, scale, size, first, second, loaded_choice, held_choice}
 use Rattle.tables.specs.LineLimits.{max_full_weight}
 use Rattle.tables.specs.WellFormed.{holds_study, Study}
-use Rattle.tables.specs.Plans.{IsPlan, Open, shape_of, loaded_costs, loaded_total}
+use Rattle.tables.specs.Plans.{IsPlan, Open, shape_of, plan_open, loaded_costs, loaded_total}
 use Rattle.tables.specs.Counts.{move_count, weight_count}
 use Rattle.tables.proofs.Plans.{study_shaped, alike_inside, same_shape_total}
 use Rattle.tables.proofs.Study.{study_well_formed, trains_range, pairs_range, constant_range, size_range, loaded_choice_range}
@@ -45,18 +45,24 @@ use Rattle.certificates.specs.Certify.{weights_of, certificate}
 use Rattle.certificates.proofs.Ceilings.{certify_cases, certify_ceiling, certify_fits}
 use Rattle.reasons.specs.Reasons.{reason_at}
 use Rattle.reasons.proofs.Costs.{shown_low}
+use Rattle.records.specs.Records.{record_right}
+use Rattle.frames.specs.Digits.{bytes}
+use Rattle.frames.specs.Frames.{Framed}
 use Rattle.frames.specs.Runs.{run_of, signed_run_of}
 use Rattle.lines.specs.declared.kind.Kind.{Kind}
 use Rattle.lines.specs.declared.kind.Kind.TheVariants as kind
 use Rattle.lines.specs.declared.request.Request.{Request}
-use Rattle.lines.specs.declared.request.Request.TheVariants.{Load, Add, Shift, Tighten, Certify, Search, Save, Round, Clauses, Explain, Order}
+use Rattle.lines.specs.declared.request.Request.TheVariants.{Load, Add, Shift, Tighten, Certify, Search, Save, Round, Clauses, Explain, Order, Screen, Planner, Record}
 use Rattle.lines.specs.declared.request.Line.TheVariants.{Refused}
 use Rattle.lines.specs.Kinds.{new_kind, request_kind}
-use Rattle.lines.specs.Layout.{kind_of, move_width, weight_width, add_train, add_choice, add_points, certify_full_weight, search_budget, weight_field, lift_field, move_field, load_trains, load_scale, explain_train, explain_choice, explain_limit, count_width, order_field, order_train}
+use Rattle.lines.specs.Layout.{kind_of, move_width, weight_width, add_train, add_choice, add_points, certify_full_weight, search_budget, weight_field, lift_field, move_field, load_trains, load_scale, explain_train, explain_choice, explain_limit, count_width, order_field, order_train, figure_width, record_trains, record_choice_field, record_bound, record_cost, plan_choice_field, plan_choice}
+use Rattle.lines.specs.Verdicts.{field_run}
 use Rattle.kinds.specs.Load.{load_verdict, load_request}
 use Rattle.kinds.specs.Clauses.{clauses_verdict, clauses_request}
 use Rattle.kinds.specs.Lines.{add_request, shift_request, certify_request, search_request, explain_request, order_request}
+use Rattle.kinds.specs.Records.{screen_request, planner_request, plan_request}
 use Rattle.kinds.proofs.Accepted.{FineExplain, FineOrder, add_fine, certify_fine, explain_fine, order_fine}
+use Rattle.kinds.proofs.RecordsAccepted.{FineRecord, FinePlan, record_fine, plan_fine}
 use Rattle.decoding.specs.Numbers.{numbers_of}
 use Rattle.decoding.specs.Clauses.{clauses_of, clause_numbers_of}
 use Rattle.decoding.proofs.LoadRange.{load_in_range}
@@ -67,24 +73,26 @@ use Rattle.reader.proofs.LineKind.{line_known}
 use Rattle.reader.proofs.LineRefused.{of_reading, line_refused}
 use Rattle.search.specs.Answer.{search_answer}
 use Rattle.search.proofs.Theorems.{answer_entries}
-use Rattle.replies.specs.Replies.{refusal_reply, reply_kind, figure_width, bound_reply, certify_reply, search_reply, reason_reply, order_reply, longest_fixed}
+use Rattle.replies.specs.Replies.{refusal_reply, reply_kind, bound_reply, certify_reply, search_reply, reason_reply, order_reply, screen_reply, record_reply, longest_fixed}
 use Rattle.replies.specs.Shown.{kind_shown, accepted}
-use Rattle.replies.proofs.ReadBack.{bound_kind, certify_kind, search_kind, reason_kind, order_kind}
+use Rattle.replies.proofs.ReadBack.{bound_kind, certify_kind, search_kind, reason_kind, order_kind, screen_kind, record_kind}
 use Rattle.replies.proofs.Accepted.{empty_refused, refusal_refused}
-use Rattle.requests.specs.Answer.{Answer, answered, declined, operated, certified, saved, requested, line_answer}
+use Rattle.requests.specs.Answer.{Answer, answered, declined, operated, certified, saved, recorded, choices_in, requested, line_answer}
+use Rattle.requests.proofs.Records.{recorded_cases}
 use Rattle.requests.proofs.LineCases.{line_cases}
 use Rattle.saving.proofs.Together.{save_kind}
 use Rattle.service.specs.Answer.{answer}
 use Rattle.service.specs.Calls.{exchange}
 use Rattle.service.proofs.AnswerCases.{fixed_fit, answer_cases}
 use Rattle.claims.specs.Ledger.{Ledger, by_kind, changed, fed}
-use Rattle.claims.specs.Claims.{outside, malformed, BoundClaim, Claim, shown_kind, never_outside, AtCall}
+use Rattle.claims.specs.Claims.{outside, figures, malformed, BoundClaim, Claim, shown_kind, never_outside, writes_record, AtCall}
 use Rattle.claims.proofs.ByKind.{by_kind_lem, kind_accepted}
 use Rattle.claims.proofs.Found.{ceiling_holds, moved_holds, known_plan, known_low, ended_least, reason_low, partner_named}
 use Rattle.claims.proofs.Keeps.{Keeps, open_in, bound_low, total_most, entry_most, scaled_most, held-total_most}
 use Rattle.claims.proofs.Kept.{load_keeps, judged_keeps, add-scaled, add_keeps, order_keeps}
-use Rattle.claims.proofs.Lines.{at_refused, at_accepted, other_refusal, empty_shows, bound_claim, round_claim, ceiling_claim, Right, search_claim, explain_claim, order_claim}
+use Rattle.claims.proofs.Lines.{at_refused, at_accepted, refused_as, empty_shows, bound_claim, round_claim, ceiling_claim, Right, search_claim, explain_claim, order_claim}
 use Rattle.claims.proofs.SaveClaims.{save_claim}
+use Rattle.claims.proofs.RecordClaims.{screen_right, planner_right, written_right, unwritten_forbidden}
 use Rattle.claims.proofs.RoundClaims.{round_done, round_keeps, round_settled}
 
 -- ---- what the ledger makes of a line
@@ -117,14 +125,20 @@ good_kind g b l k a known shown keeps claim =
 
 -- ---- declined calls
 
--- a refusal that no claim excludes: not 16, and to an addition, a tightening or a round, where nothing is forbidden, not 12
+-- a refusal that no claim excludes: not 16; to an addition, a tightening or a round, where nothing is forbidden, not 12; and to a plan whose record is to be written not 23, unless it has a forbidden
+-- entry
 pub record Allowed (g : Ledger) (l : List ℕ) (r : Refusal) : Type 0 where
   pub not_outside : by_kind never_outside false l ≡ true → Open g.shape → refusal_number r ≡ outside → ⊥
+  pub unwritten : by_kind writes_record false l ≡ true → refusal_number r ≡ figures → plan_open g.shape (plan_choice l) ≡ false
   pub not_malformed : refusal_number r ≡ malformed → ⊥
+
+-- one under another number than these
+allowed : (g : Ledger) (l : List ℕ) (r : Refusal) → (refusal_number r ≡ outside → ⊥) → (refusal_number r ≡ figures → ⊥) → (refusal_number r ≡ malformed → ⊥) → Allowed g l r
+allowed g l r o f m = record { not_outside = λ _ _. o; unwritten = λ _ q. absurd (f q); not_malformed = m }
 
 -- what the reader declines
 pub line_allowed : (g : Ledger) (l : List ℕ) (b : List ℤ) (r : Refusal) → line_of l b ≡ Refused r → Allowed g l r
-line_allowed g l b r e = record { not_outside = λ w o. apart outside refl; not_malformed = apart malformed refl }
+line_allowed g l b r e = allowed g l r (apart outside refl) (apart figures refl) (apart malformed refl)
   where
     apart : (n : ℕ) → of_reading n ≡ false → refusal_number r ≡ n → ⊥
     apart n h q = not_both (line_refused l b r e) (ap of_reading q ∙ h)
@@ -132,10 +146,11 @@ line_allowed g l b r e = record { not_outside = λ w o. apart outside refl; not_
 module _ (g : Ledger) (b : List ℤ) (l : List ℕ) where
   pub declined-call : (r : Refusal) → Allowed g l r → AtCall g b (exchange l (refusal_reply r))
   declined-call r w =
-      at_refused g b l (refusal_reply r) (refusal_refused r) (λ u o. other_refusal r outside (w.not_outside u o)) (other_refusal r malformed w.not_malformed)
+      at_refused g b l (refusal_reply r) (refusal_refused r) (λ u o d. w.not_outside u o (refused_as r outside d)) (λ u d. w.unwritten u (refused_as r figures d))
+      (λ d. w.not_malformed (refused_as r malformed d))
 
   pub empty_call : AtCall g b (exchange l [])
-  empty_call = at_refused g b l [] empty_refused (λ u o. empty_shows outside) (empty_shows malformed)
+  empty_call = at_refused g b l [] empty_refused (λ u o. empty_shows outside) (λ u d. absurd (empty_shows figures d)) (empty_shows malformed)
 
 -- they leave both block and ledger
 good_declined : {g : Ledger} {b : List ℤ} → Keeps g b → (l : List ℕ) (r : Refusal) → Allowed g l r → Good g b l (declined b r)
@@ -176,7 +191,11 @@ good_clauses g l b e v fine =
 -- it is declined with 20 or 10 only
 pub clauses_allowed : (g : Ledger) (l : List ℕ) (r : Refusal) → new_kind (kind_of l) ≡ Ok kind.Clauses → outcome_of l ≡ Declined r → Allowed g l r
 clauses_allowed g l r e f =
-    record { not_outside = λ u. absurd (not_both u (by_kind_lem never_outside false l e)); not_malformed = apart (clauses-declined (load_trains l) (load_scale l) (clauses_of l) r f) }
+    record {
+      not_outside = λ u. absurd (not_both u (by_kind_lem never_outside false l e));
+      unwritten = λ u. absurd (not_both u (by_kind_lem writes_record false l e));
+      not_malformed = apart (clauses-declined (load_trains l) (load_scale l) (clauses_of l) r f);
+    }
   where
     apart : (r ≡ PairsAbove) ⊎ (r ≡ CostAbove) → refusal_number r ≡ malformed → ⊥
     apart (inl q) h = let x : ◌≡◌ {A = ℕ} 20 16 = sym (ap refusal_number q) ∙ h in omega arith
@@ -196,7 +215,7 @@ module _ {g : Ledger} {b : List ℤ} (k : Keeps g b) (l : List ℕ) where
       go true h x = good_bound g b l kd (kept b c) e own (λ d. claim d h) x
       go false h x =
           good_declined k l PartsOutside
-          (record { not_outside = λ w o _. not_both (never (sym (by_kind_lem never_outside false l e) ∙ w) o) h; not_malformed = λ q. omega arith })
+          (record { not_outside = λ w o _. not_both (never (sym (by_kind_lem never_outside false l e) ∙ w) o) h; unwritten = λ w q. absurd (omega arith); not_malformed = λ q. omega arith })
 
   -- a shift
   good_shift : new_kind (kind_of l) ≡ Ok kind.Shift → Good g b l (requested (shift_request (trains b) (move_count (shape_of b))) l b)
@@ -265,6 +284,7 @@ module _ {g : Ledger} {b : List ℤ} (k : Keeps g b) (l : List ℕ) where
       parts_allowed low d =
           record {
             not_outside = λ w o q. let z : Declined PartsOutside ≡ Fine = d ∙ within_done (open_in k o) low in let y : ◌≡◌ {A = ℕ} 0 1 = cc in omega arith;
+            unwritten = λ w q. absurd (omega arith);
             not_malformed = λ q. omega arith;
           }
 
@@ -278,7 +298,7 @@ module _ {g : Ledger} {b : List ℤ} (k : Keeps g b) (l : List ℕ) where
               dite (dec_lt max_cost (loaded_choice b (add_train l) (add_choice l) + add_points l))
               (λ (h : max_cost < loaded_choice b (add_train l) (add_choice l) + add_points l).
               by_add (Declined CostAbove) (cost_above (add_train l) (add_choice l) (add_points l) b o h).0
-              (good_declined k l CostAbove (record { not_outside = λ w o q. omega arith; not_malformed = λ q. omega arith })))
+              (good_declined k l CostAbove (allowed g l CostAbove (λ q. omega arith) (λ q. omega arith) (λ q. omega arith))))
               (λ m. dite (dec_lt max_parts (held_choice b (add_train l) (add_choice l) + scale b * add_points l))
               (λ (h : max_parts < held_choice b (add_train l) (add_choice l) + scale b * add_points l).
               let d = parts_above (add_train l) (add_choice l) (add_points l) b o (omega arith) h in
@@ -293,8 +313,8 @@ module _ {g : Ledger} {b : List ℤ} (k : Keeps g b) (l : List ℕ) where
   unfolding requested
   good_certify e low =
       certify_cases b (weights_of b (certify_full_weight l) weights) (λ v. Good g b l (certified (certify_full_weight l) v b))
-      (good_declined k l Sums (record { not_outside = λ w o q. omega arith; not_malformed = λ q. omega arith }))
-      (good_declined k l ForbiddenWeight (record { not_outside = λ w o q. omega arith; not_malformed = λ q. omega arith }))
+      (good_declined k l Sums (allowed g l Sums (λ q. omega arith) (λ q. omega arith) (λ q. omega arith)))
+      (good_declined k l ForbiddenWeight (allowed g l ForbiddenWeight (λ q. omega arith) (λ q. omega arith) (λ q. omega arith)))
       accepted_lem
     where
       weights : List ℕ
@@ -358,25 +378,58 @@ module _ {g : Ledger} {b : List ℤ} (k : Keeps g b) (l : List ℕ) where
       go (Ok _) f = good_clauses g l b e v f
       go (Err r) f = good_declined k l r (clauses_allowed g l r e f)
 
+  -- ---- plan records change nothing
+
+  good_screen : new_kind (kind_of l) ≡ Ok kind.Screen → FineRecord l b → Good g b l (requested (screen_request l) l b)
+  unfolding requested
+  good_screen e f =
+      let choices = choices_in l (field_run record_choice_field.at (record_trains l)) in
+      good_kind g b l kind.Screen (answered b (screen_reply choices)) e (screen_kind choices) k (screen_right k f)
+
+  -- a record that is right is shown, another declined with 23
+  good_recorded : (kd : Kind) (choices : List ℕ) (bound cost : ℕ) → new_kind (kind_of l) ≡ Ok kd → reply_kind kd ≡ shown_kind kd → Keeps (changed kd l g) b
+      → (record_right b (nth choices) bound cost ≡ true → Claim kd (changed kd l g) b (exchange l (record_reply kd choices bound cost)))
+      → (record_right b (nth choices) bound cost ≡ false → by_kind writes_record false l ≡ true → plan_open g.shape (plan_choice l) ≡ false)
+      → Good g b l (recorded kd choices bound cost b)
+  good_recorded kd choices bound cost e own keeps claim unwritten =
+      recorded_cases kd choices bound cost b (Good g b l)
+      (λ r. good_kind g b l kd (answered b (record_reply kd choices bound cost)) e (record_kind kd choices bound cost ∙ own) keeps (claim r))
+      (λ r. good_declined k l Figures (record { not_outside = λ w o q. omega arith; unwritten = λ w q. unwritten r w; not_malformed = λ q. omega arith }))
+
+  good_planner : new_kind (kind_of l) ≡ Ok kind.Planner → Framed l (bytes l) → FineRecord l b → Good g b l (requested (planner_request l) l b)
+  unfolding requested
+  good_planner e w f =
+      good_recorded kind.Planner (choices_in l (field_run record_choice_field.at (record_trains l))) (record_bound l) (record_cost l) e refl k (planner_right k f w)
+      (λ r u. absurd (not_both u (by_kind_lem writes_record false l e)))
+
+  good_record : new_kind (kind_of l) ≡ Ok kind.Record → FinePlan l b → Good g b l (requested (plan_request (trains b)) l b)
+  unfolding requested
+  good_record e f =
+      let choices = choices_in l (field_run plan_choice_field.at (trains b)) in
+      good_recorded kind.Record choices (bound_of b) (loaded_total b (nth choices)) e refl k (written_right k f) (λ r u. unwritten_forbidden k f r)
+
   -- ---- every request
 
   as_asked : (q r : Request) → q ≡ r → Good g b l (requested r l b) → Good g b l (requested q l b)
   as_asked q r e x = subst (λ (s : Request). Good g b l (requested s l b)) (sym e) x
 
-  good_request : (q : Request) → Makes l b q → new_kind (kind_of l) ≡ Ok (request_kind q) → Good g b l (requested q l b)
-  good_request (Load q) m e = as_asked (Load q) (load_request l) m.0 (good_load g l b e m.1)
-  good_request (Add q) m e =
-      let w = add_there k.study (add_fine l b m.1) in
-      as_asked (Add q) (add_request l) m.0 (good_added w.0 w.1 e)
-  good_request (Shift q) m e = as_asked (Shift q) (shift_request (trains b) (move_count (shape_of b))) m.0 (good_shift e)
-  good_request Tighten m e = good_tighten e
-  good_request (Certify q) m e = as_asked (Certify q) (certify_request l (weight_count (shape_of b))) m.0 (good_certify e (certify_fine l (weight_count (shape_of b)) m.1).full_weight)
-  good_request (Search q) m e = as_asked (Search q) (search_request l) m.0 (good_search e)
-  good_request Save m e = good_save e
-  good_request Round m e = good_round e
-  good_request (Clauses q) m e = as_asked (Clauses q) (clauses_request l) m.0 (good_clauses_line e m.1)
-  good_request (Explain q) m e = as_asked (Explain q) (explain_request l) m.0 (good_explain e (explain_fine l b m.1))
-  good_request (Order q) m e = as_asked (Order q) (order_request (trains b)) m.0 (good_order e (order_fine l (trains b) m.1))
+  good_request : (q : Request) → Framed l (bytes l) → Makes l b q → new_kind (kind_of l) ≡ Ok (request_kind q) → Good g b l (requested q l b)
+  good_request (Load q) w m e = as_asked (Load q) (load_request l) m.0 (good_load g l b e m.1)
+  good_request (Add q) w m e =
+      let there = add_there k.study (add_fine l b m.1) in
+      as_asked (Add q) (add_request l) m.0 (good_added there.0 there.1 e)
+  good_request (Shift q) w m e = as_asked (Shift q) (shift_request (trains b) (move_count (shape_of b))) m.0 (good_shift e)
+  good_request Tighten w m e = good_tighten e
+  good_request (Certify q) w m e = as_asked (Certify q) (certify_request l (weight_count (shape_of b))) m.0 (good_certify e (certify_fine l (weight_count (shape_of b)) m.1).full_weight)
+  good_request (Search q) w m e = as_asked (Search q) (search_request l) m.0 (good_search e)
+  good_request Save w m e = good_save e
+  good_request Round w m e = good_round e
+  good_request (Clauses q) w m e = as_asked (Clauses q) (clauses_request l) m.0 (good_clauses_line e m.1)
+  good_request (Explain q) w m e = as_asked (Explain q) (explain_request l) m.0 (good_explain e (explain_fine l b m.1))
+  good_request (Order q) w m e = as_asked (Order q) (order_request (trains b)) m.0 (good_order e (order_fine l (trains b) m.1))
+  good_request (Screen q) w m e = as_asked (Screen q) (screen_request l) m.0 (good_screen e (record_fine l b m.1))
+  good_request (Planner q) w m e = as_asked (Planner q) (planner_request l) m.0 (good_planner e w (record_fine l b m.1))
+  good_request (Record q) w m e = as_asked (Record q) (plan_request (trains b)) m.0 (good_record e (plan_fine l b m.1))
 
   -- 17, at once or for a reply that does not fit
   good_empty : Good g b l (answered b [])
@@ -387,7 +440,7 @@ module _ {g : Ledger} {b : List ℤ} (k : Keeps g b) (l : List ℕ) where
   good_line room h =
       line_cases l b room h (study_well_formed k.study) (Good g b l)
       (λ r e. good_declined k l r (line_allowed g l b r e))
-      (λ q a f. good_request q (line_makes l b q a.asked).1 (line_known l b q a.asked))
+      (λ q a f. let m = line_makes l b q a.asked in good_request q m.0 m.1 (line_known l b q a.asked))
       (λ q a f. good_empty)
 
   -- a call on it

@@ -1,20 +1,20 @@
 -- Demand 3 of document 01, as one claim about a whole list of calls from a fresh block. Nothing else stands in this file; `demand` in proofs/Demand.antt proves it. What follows from each
--- part of it, so that it cannot be said more weakly unseen, stands in proofs/Uses.antt and proofs/UsesForbidden.antt; the name of the law there is in brackets.
-use Rattle.std.specs.Prelude.{◌≡◌, Bool, true, false, List, [], ◌∷◌, ◌⊎◌, ℕ, ◌*◌, ◌-◌, ◌<◌, ◌≤◌, ◌^◌, eqb, ℤ, Ok}
+-- part of it, so that it cannot be said more weakly unseen, stands in proofs/Uses.antt, proofs/UsesForbidden.antt and proofs/UsesRecords.antt; the name of the law there is in brackets.
+use Rattle.std.specs.Prelude.{◌≡◌, Bool, true, false, List, [], ◌∷◌, ◌⊎◌, ℕ, ◌*◌, ◌-◌, ◌<◌, ◌≤◌, ◌^◌, eqb, drop, ℤ, Ok}
 use Rattle.theory.specs.Order.{each_once}
 use Rattle.tables.specs.Block.{held_choice_place, held_entry_place, at, trains, scale, pairs, constant, size, first, second, loaded_choice, loaded_entry}
 use Rattle.tables.specs.WellFormed.{is_open, well_formed, fresh_block}
-use Rattle.tables.specs.Plans.{AlikeShapes, Costs, IsPlan, Open, Branches, LeastOf, PairOf, shape_of, held_total}
+use Rattle.tables.specs.Plans.{AlikeShapes, Costs, IsPlan, Open, Branches, LeastOf, PairOf, shape_of, plan_open, held_total}
 use Rattle.tables.specs.Counts.{rows_of, columns_of}
 use Rattle.bounds.specs.Bounds.{bound_of}
 use Rattle.certificates.specs.Rival.{Rival, IsRival, ConstantAtMost}
 use Rattle.weights.specs.Rival.{Amounts, Leaves, LiftsAtMost}
 use Rattle.reasons.specs.Reasons.{no_partner}
 use Rattle.lines.specs.declared.kind.Kind.{Kind}
-use Rattle.lines.specs.declared.kind.Kind.TheVariants.{Load, Add, Shift, Tighten, Certify, Search, Save, Round, Clauses, Explain, Order}
+use Rattle.lines.specs.declared.kind.Kind.TheVariants.{Load, Add, Shift, Tighten, Certify, Search, Save, Round, Clauses, Explain, Order, Screen, Planner, Record}
 use Rattle.lines.specs.declared.request.Line.TheVariants.{Asked}
 use Rattle.lines.specs.Kinds.{kind_number, new_kind}
-use Rattle.lines.specs.Layout.{kind_of, explain_train, explain_choice, explain_limit, order_train}
+use Rattle.lines.specs.Layout.{kind_of, explain_train, explain_choice, explain_limit, order_train, kind_width, record_trains, record_choice, record_bound, record_cost, plan_choice}
 use Rattle.clauses.specs.Clauses.{failed_weight}
 use Rattle.kinds.specs.Load.{load_request}
 use Rattle.decoding.specs.Numbers.{numbers_of}
@@ -46,6 +46,10 @@ DeclinedAs n reply = (kind_shown reply ≡ refusal_byte) × (number_shown reply 
 -- 12: 'c0 or an entry would end below 0 or above L'
 abbrev pub outside : ℕ
 outside = 12
+
+-- 23: 'cost isn't the plan's total in H, bound above it, or a forbidden entry'
+abbrev pub figures : ℕ
+figures = 23
 
 -- 16: 'block of another length or not well formed'
 abbrev pub malformed : ℕ
@@ -142,6 +146,39 @@ pub record OrderClaim (g : Ledger) (e : Exchange) : Type 0 where
   -- in the order of the line (`turned_order`)
   pub same : (d : ℕ) → d < g.shape.trains → order_shown e.reply d ≡ order_train e.line d
 
+-- document 02, change 11: '8C, n and choices'
+pub record ScreenClaim (g : Ledger) (e : Exchange) : Type 0 where
+  -- n and each choice are the study's (`fourth_train`, `absent_shown`)
+  pub trains : record_trains e.reply ≡ g.shape.trains
+  pub there : (i : ℕ) → i < g.shape.trains → record_choice e.reply i < g.shape.size i
+  -- and the record's (`other_screen`)
+  pub same : (i : ℕ) → i < g.shape.trains → record_choice e.reply i ≡ record_choice e.line i
+
+-- a record that a reply shows: 'n, n choices, bound (6), cost (6), in points'
+pub record RecordClaim (g : Ledger) (e : Exchange) : Type 0 where
+  -- n is the study's (`two_recorded`)
+  pub trains : record_trains e.reply ≡ g.shape.trains
+  -- its choices are a plan (`forbidden_choice_record`, `forbidden_record`)
+  pub plan : PlanOf g (record_choice e.reply)
+  -- the cost is 'the plan's total in H', its cost by the ledger (`other_record_cost`)
+  pub cost : record_cost e.reply ≡ cost_of g (record_choice e.reply)
+  -- and the bound is not 'above it' (`high_record`)
+  pub bound : record_bound e.reply ≤ record_cost e.reply
+
+-- '8D and the record'
+pub record PlannerClaim (g : Ledger) (e : Exchange) : Type 0 where
+  pub right : RecordClaim g e
+  -- as it was read (`other_bound_read`)
+  pub same : drop (2 * kind_width) e.reply ≡ drop (2 * kind_width) e.line
+
+-- '8E, record', 'with the published bound'
+pub record WrittenClaim (g : Ledger) (e : Exchange) : Type 0 where
+  pub right : RecordClaim g e
+  -- of the choices of the line (`other_written`)
+  pub same : (i : ℕ) → i < g.shape.trains → record_choice e.reply i ≡ plan_choice e.line i
+  -- the bound is at most every plan's cost (`high_written`)
+  pub low : (x : ℕ → ℕ) → PlanOf g x → record_bound e.reply ≤ cost_of g x
+
 -- each kind's own (`high_bound`, `high_added`, `high_shifted`, `high_tightened`)
 abbrev pub Claim : Kind → Ledger → List ℤ → Exchange → Type 0
 Claim Load g b e = BoundClaim g e
@@ -155,8 +192,11 @@ Claim Round g b e = RoundClaim g e
 Claim Clauses g b e = ClausesClaim g e
 Claim Explain g b e = ExplainClaim g e
 Claim Order g b e = OrderClaim g e
+Claim Screen g b e = ScreenClaim g e
+Claim Planner g b e = PlannerClaim g e
+Claim Record g b e = WrittenClaim g e
 
--- 'Kinds 01 to 04: 81 to 84', 'Certify: 85', 'Search: 86'; of a round 88, of clauses 89, of a reason 8A, of an order 8B; a save's reply, a load line, begins with 01
+-- 'Kinds 01 to 04: 81 to 84', 'Certify: 85', 'Search: 86'; of a round 88, of clauses 89, of a reason 8A, of an order 8B, of records 8C to 8E; a save's reply, a load line, begins with 01
 abbrev pub shown_kind : Kind → ℕ
 shown_kind Load = reply_kind Load
 shown_kind Add = reply_kind Add
@@ -169,6 +209,9 @@ shown_kind Round = reply_kind Round
 shown_kind Clauses = reply_kind Clauses
 shown_kind Explain = reply_kind Explain
 shown_kind Order = reply_kind Order
+shown_kind Screen = reply_kind Screen
+shown_kind Planner = reply_kind Planner
+shown_kind Record = reply_kind Record
 
 pub record AtLine (g : Ledger) (b : List ℤ) (e : Exchange) : Type 0 where
   -- 'The first byte is the kind': an accepted line has one (`no_kind`)
@@ -194,12 +237,34 @@ never_outside Round = true
 never_outside Clauses = false
 never_outside Explain = false
 never_outside Order = false
+never_outside Screen = false
+never_outside Planner = false
+never_outside Record = false
+
+-- 0E 'writes one'
+abbrev pub writes_record : Kind → Bool
+writes_record Load = false
+writes_record Add = false
+writes_record Shift = false
+writes_record Tighten = false
+writes_record Certify = false
+writes_record Search = false
+writes_record Save = false
+writes_record Round = false
+writes_record Clauses = false
+writes_record Explain = false
+writes_record Order = false
+writes_record Screen = false
+writes_record Planner = false
+writes_record Record = true
 
 pub record AtCall (g : Ledger) (b : List ℤ) (e : Exchange) : Type 0 where
   -- 'A line is accepted if its reply isn't empty and doesn't begin with FF'
   pub line : accepted e.reply ≡ true → AtLine g b e
   -- 'From fresh by these lines only' (`add-outside`, `tighten_outside`, `round_outside`). Change 5: 'Add, tighten and the directional round may now give 12'
   pub never-outside : by_kind never_outside false e.line ≡ true → Open g.shape → DeclinedAs outside e.reply → ⊥
+  -- document 02, change 11: where no record of a plan is written for its figures, 23, the plan has 'a forbidden entry' (`unwritten_plan`)
+  pub unwritten : by_kind writes_record false e.line ≡ true → DeclinedAs figures e.reply → plan_open g.shape (plan_choice e.line) ≡ false
   -- no line of a list gives 16: each has 'the block that the call before left', 'the first has a fresh block' (`no_malformed`)
   pub never-malformed : DeclinedAs malformed e.reply → ⊥
 

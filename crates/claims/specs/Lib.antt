@@ -9,4 +9,5 @@ pub mod Forbidden
 pub mod Stops
 pub mod Steps
 pub mod Orders
+pub mod Records
 pub mod Declined

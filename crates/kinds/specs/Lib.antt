@@ -1,4 +1,5 @@
 -- The rule, and nothing besides.
 pub mod Load
 pub mod Clauses
+pub mod Records
 pub mod Lines

@@ -19,6 +19,7 @@ pub mod clause_fields;
 mod explain_fields;
 pub mod load;
 mod order;
+mod record_fields;
 mod search;
 mod shift;
 pub mod sized_load;
@@ -43,6 +44,9 @@ pub fn read_fields(frame: Frame<'_>, kind: Kind, block: Block<'_>) -> Result<Req
         (Kind::Round, Block::Held(_)) => bare::read_bare(frame, Request::Round),
         (Kind::Explain, Block::Held(study)) => explain_fields::read_explain(frame, study),
         (Kind::Order, Block::Held(study)) => order::read_order(frame, study),
+        (Kind::Screen, Block::Held(study)) => record_fields::read_screen(frame, study),
+        (Kind::Planner, Block::Held(study)) => record_fields::read_planner(frame, study),
+        (Kind::Record, Block::Held(study)) => record_fields::read_plan(frame, study),
         (_, Block::Fresh) => unreachable!(),
     }
 }

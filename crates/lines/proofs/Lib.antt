@@ -3,3 +3,4 @@ pub mod KindNumbers
 pub mod Judged
 pub mod Obeyed
 pub mod Pairs
+pub mod Records

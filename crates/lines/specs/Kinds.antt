@@ -5,9 +5,9 @@ use Rattle.refusals.specs.declared.Refusal.TheVariants.{NoKind}
 use Rattle.lines.specs.declared.kind.Kind.{Kind}
 use Rattle.lines.specs.declared.kind.Kind.TheVariants as kind
 use Rattle.lines.specs.declared.request.Request.{Request}
-use Rattle.lines.specs.declared.request.Request.TheVariants.{Load, Add, Shift, Tighten, Certify, Search, Save, Round, Clauses, Explain, Order}
+use Rattle.lines.specs.declared.request.Request.TheVariants.{Load, Add, Shift, Tighten, Certify, Search, Save, Round, Clauses, Explain, Order, Screen, Planner, Record}
 
--- '01 load', '02 add', '03 shift', '04 tighten', '05 certify', '06 search'; document 02: 'Kind 07', a save, 'Kind 08', a directional round, 'Kind 09', a study written as clauses, 'Kind 0A', why a choice is out, 'Kind 0B', the order of the trains
+-- '01 load', '02 add', '03 shift', '04 tighten', '05 certify', '06 search'; document 02: 'Kind 07', a save, 'Kind 08', a directional round, 'Kind 09', a study written as clauses, 'Kind 0A', why a choice is out, 'Kind 0B', the order of the trains, 'Kind 0E', which writes a plan record, 'Kind 0C', which 'reads one for screens', and 'Kind 0D', which 'reads one for planners'
 abbrev pub kind_number : Kind → ℕ
 kind_number kind.Load = 1
 kind_number kind.Add = 2
@@ -20,6 +20,9 @@ kind_number kind.Round = 8
 kind_number kind.Clauses = 9
 kind_number kind.Explain = 10
 kind_number kind.Order = 11
+kind_number kind.Screen = 12
+kind_number kind.Planner = 13
+kind_number kind.Record = 14
 
 -- this kind where the number is its own
 abbrev pub kind_if : Kind → ℕ → Result Kind Refusal → Result Kind Refusal
@@ -39,6 +42,9 @@ all_kinds =
     ∷ kind.Clauses
     ∷ kind.Explain
     ∷ kind.Order
+    ∷ kind.Screen
+    ∷ kind.Planner
+    ∷ kind.Record
     ∷ []
 
 -- the kind of these that has this number, or 3 where none has
@@ -50,7 +56,7 @@ kind_among (k ∷ kinds) n = kind_if k n (kind_among kinds n)
 unfoldable pub new_kind : ℕ → Result Kind Refusal
 new_kind n = kind_among all_kinds n
 
--- 4: 'kinds 02-06 on a fresh block', 07, 08, 0A and 0B; 09 loads
+-- 4: 'kinds 02-06 on a fresh block', 07, 08 and 0A to 0E; 09 loads
 abbrev pub needs_study : Kind → Bool
 needs_study kind.Load = false
 needs_study kind.Add = true
@@ -63,6 +69,9 @@ needs_study kind.Round = true
 needs_study kind.Clauses = false
 needs_study kind.Explain = true
 needs_study kind.Order = true
+needs_study kind.Screen = true
+needs_study kind.Planner = true
+needs_study kind.Record = true
 
 -- the kind of a request
 abbrev pub request_kind : Request → Kind
@@ -77,3 +86,6 @@ request_kind Round = kind.Round
 request_kind (Clauses q) = kind.Clauses
 request_kind (Explain q) = kind.Explain
 request_kind (Order q) = kind.Order
+request_kind (Screen q) = kind.Screen
+request_kind (Planner q) = kind.Planner
+request_kind (Record q) = kind.Record

@@ -49,7 +49,7 @@ numbers_in l f count = run_of l f.at f.width count
 abbrev pub below : Field → ℕ → Field
 below f count = field_as f.at f.width (Between 0 (count - 1)) f.refusal
 
--- how many bytes a count or the number of a train or a choice, a scale, a cost, a lift or a move, W or a weight, and a budget have
+-- how many bytes a count or the number of a train or a choice, a scale, a cost, a lift or a move, W or a weight, a budget, and a figure in parts or points have: of a record, as of a reply
 abbrev pub count_width : ℕ
 count_width = 1
 
@@ -67,6 +67,9 @@ weight_width = 3
 
 abbrev pub budget_width : ℕ
 budget_width = 4
+
+abbrev pub figure_width : ℕ
+figure_width = 6
 
 -- 7: 'cost .. over 1,000,000', but 'FFFFFF in a load means' forbidden
 abbrev pub cost_field : ℕ → Field
@@ -269,3 +272,40 @@ order_field = field_as kind_width count_width Any Fields
 -- the train that is to be tried d-th, counted from 0
 abbrev pub order_train : List ℕ → ℕ → ℕ
 order_train l d = number_in l (further order_field d)
+
+-- ---- 0C and 0D, document 02, change 11: a record, 'n, n choices, bound (6), cost (6), in points'; its numbers are any, judged together. It stands behind the first byte, in a reply as in a line
+
+abbrev pub record_trains_field : Field
+record_trains_field = field_as kind_width count_width Any Fields
+
+abbrev pub record_trains : List ℕ → ℕ
+record_trains l = number_in l record_trains_field
+
+abbrev pub record_choice_field : Field
+record_choice_field = field_as (end_of record_trains_field) count_width Any Fields
+
+-- the choice of train i
+abbrev pub record_choice : List ℕ → ℕ → ℕ
+record_choice l i = number_in l (further record_choice_field i)
+
+-- the bound behind n choices
+abbrev pub record_bound_field : ℕ → Field
+record_bound_field n = field_as (further record_choice_field n).at figure_width Any Fields
+
+abbrev pub record_bound : List ℕ → ℕ
+record_bound l = number_in l (record_bound_field (record_trains l))
+
+abbrev pub record_cost_field : ℕ → Field
+record_cost_field n = field_as (end_of (record_bound_field n)) figure_width Any Fields
+
+abbrev pub record_cost : List ℕ → ℕ
+record_cost l = number_in l (record_cost_field (record_trains l))
+
+-- ---- 0E, document 02, change 11: 'n choices, n being the block's', one byte each
+
+abbrev pub plan_choice_field : Field
+plan_choice_field = field_as kind_width count_width Any Fields
+
+-- the choice of train i
+abbrev pub plan_choice : List ℕ → ℕ → ℕ
+plan_choice l i = number_in l (further plan_choice_field i)

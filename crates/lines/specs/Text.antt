@@ -1,4 +1,4 @@
--- Document 01, '01 load', the other way round: the line that loads given numbers.
+-- Lines and records the other way round: document 01, '01 load', the line that loads given numbers; document 02, change 11, the record of a plan.
 use Rattle.std.specs.Prelude.{List, [], ℕ, zero, suc, ◌+◌, ◌*◌, length}
 use Rattle.theory.specs.Lists.{nth}
 use Rattle.tables.specs.Plans.{Shape}
@@ -8,7 +8,7 @@ use Rattle.frames.specs.Fields.{field_digits}
 use Rattle.frames.specs.Runs.{run_digits}
 use Rattle.lines.specs.declared.kind.Kind.TheVariants.{Load}
 use Rattle.lines.specs.Kinds.{kind_number}
-use Rattle.lines.specs.Layout.{kind_width, count_width, scale_width, cost_width, pair_width, size_field}
+use Rattle.lines.specs.Layout.{kind_width, count_width, scale_width, cost_width, pair_width, figure_width, size_field}
 
 -- kind, n, s and sizes, before other characters
 abbrev pub head_digits : ℕ → List ℕ → List ℕ → List ℕ
@@ -45,3 +45,17 @@ line_bytes n choices m entries = size_field.at + count_width * n + cost_width * 
 
 abbrev pub load_bytes : Numbers → ℕ
 load_bytes x = line_bytes (length x.sizes) (length x.choices) (length x.firsts) (length x.entries)
+
+-- ---- document 02, change 11
+
+-- 'n, n choices', before other characters
+abbrev pub choices_digits : List ℕ → List ℕ → List ℕ
+choices_digits choices rest = field_digits count_width (length choices) (run_digits count_width (length choices) (nth choices) rest)
+
+-- a record: 'n, n choices, bound (6), cost (6), in points'
+unfoldable pub record_digits : List ℕ → ℕ → ℕ → List ℕ
+record_digits choices bound cost = choices_digits choices (field_digits figure_width bound (field_digits figure_width cost []))
+
+-- how many bytes a record of n choices has
+abbrev pub record_bytes : ℕ → ℕ
+record_bytes n = count_width + count_width * n + 2 * figure_width

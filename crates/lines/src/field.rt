@@ -30,6 +30,8 @@ pub struct Field {
 impl Field {
     // How many bytes a count has, and the number of a train or of a choice.
     pub const COUNT_WIDTH: usize = 1;
+    // How many bytes a figure in parts or points has, in a record or a reply.
+    pub const FIGURE_WIDTH: usize = 6;
 
     // The number that stands in the field.
     pub fn number_in(self, line: &[u8]) -> u64

@@ -17,6 +17,9 @@ pub enum Kind {
     Clauses,
     Explain,
     Order,
+    Screen,
+    Planner,
+    Record,
 }
 
 impl Kind {
@@ -55,6 +58,9 @@ impl TryFrom<u64> for Kind {
             9 => Ok(Kind::Clauses),
             10 => Ok(Kind::Explain),
             11 => Ok(Kind::Order),
+            12 => Ok(Kind::Screen),
+            13 => Ok(Kind::Planner),
+            14 => Ok(Kind::Record),
             _ => Err(Refusal::NoKind),
         }
     }
@@ -80,6 +86,9 @@ impl From<Kind> for u64 {
             Kind::Clauses => 9,
             Kind::Explain => 10,
             Kind::Order => 11,
+            Kind::Screen => 12,
+            Kind::Planner => 13,
+            Kind::Record => 14,
         }
     }
 }

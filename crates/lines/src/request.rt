@@ -1,4 +1,4 @@
-// Document 01, 'Lines': a read line is either a refusal or one of eleven requests, each with its own fields. Offsets, in bytes, stand for long fields.
+// Document 01, 'Lines': a read line is either a refusal or one of fourteen requests, each with its own fields. Offsets, in bytes, stand for long fields.
 use crate::field::Field;
 use refusals::Refusal;
 use tables::block::Block;
@@ -107,6 +107,26 @@ pub struct Order {
     pub trains: FieldRun,
 }
 
+// A plan record, read for a screen: its choices, by train.
+#[derive(Clone, Copy)]
+pub struct Screen {
+    pub choices: FieldRun,
+}
+
+// A plan record, read for planners.
+#[derive(Clone, Copy)]
+pub struct Planner {
+    pub choices: FieldRun,
+    pub bound: Points,
+    pub cost: Points,
+}
+
+// The plan of a record that is to be written: its choices, by train.
+#[derive(Clone, Copy)]
+pub struct Record {
+    pub choices: FieldRun,
+}
+
 #[derive(Clone, Copy)]
 pub enum Request {
     Load(Load),
@@ -120,6 +140,9 @@ pub enum Request {
     Clauses(Clauses),
     Explain(Explain),
     Order(Order),
+    Screen(Screen),
+    Planner(Planner),
+    Record(Record),
 }
 
 // What a line asks, or why it is declined: an enum of its own and no Result, as document 01's Forms ask.

@@ -1,4 +1,4 @@
-// Document 01, 'What is declined', and document 02, changes 5, 7 and 10: the reasons, with their numbers, and verdicts on a line, a field or an operation.
+// Document 01, 'What is declined', and document 02, changes 5, 7, 10 and 11: the reasons, with their numbers, and verdicts on a line, a field or an operation.
 #![tactic(auto)]
 
 #[derive(Clone, Copy, PartialEq, Eq)]
@@ -42,6 +42,10 @@ pub enum Refusal {
     PairsAbove,
     // Not each train exactly once.
     Order,
+    // A number of trains that is not the block's, or a choice that is not there.
+    NotHeld,
+    // A plan with a forbidden entry, a cost that is not its total, or a bound above that.
+    Figures,
 }
 
 // Document 01's number of a refusal.
@@ -73,6 +77,8 @@ impl From<Refusal> for u8 {
             Refusal::Literal => 19,
             Refusal::PairsAbove => 20,
             Refusal::Order => 21,
+            Refusal::NotHeld => 22,
+            Refusal::Figures => 23,
         }
     }
 }

@@ -14,12 +14,12 @@ use Rattle.frames.specs.Digits.{digit, byte_at}
 use Rattle.frames.specs.Fields.{field}
 use Rattle.reasons.specs.declared.Reason.{Reason}
 use Rattle.lines.specs.declared.kind.Kind.{Kind}
-use Rattle.lines.specs.declared.kind.Kind.TheVariants.{Certify, Search, Explain, Order}
+use Rattle.lines.specs.declared.kind.Kind.TheVariants.{Certify, Search, Explain, Order, Screen}
 use Rattle.lines.proofs.KindNumbers.{number_low}
 use Rattle.search.specs.declared.answer.Found.{Found}
-use Rattle.replies.specs.Replies.{refusal_byte, refusal_reply, bound_reply, certify_reply, search_reply, reason_reply, order_reply}
+use Rattle.replies.specs.Replies.{refusal_byte, refusal_reply, bound_reply, certify_reply, search_reply, reason_reply, order_reply, screen_reply, record_reply}
 use Rattle.replies.specs.Shown.{kind_shown, accepted}
-use Rattle.replies.proofs.ReadBack.{refusal_kind, bound_kind, certify_kind, search_kind, reason_kind, order_kind}
+use Rattle.replies.proofs.ReadBack.{refusal_kind, bound_kind, certify_kind, search_kind, reason_kind, order_kind, screen_kind, record_kind}
 
 -- an empty reply shows no byte
 pub accepted_as : (reply : List ℕ) → kind_shown reply < refusal_byte → accepted reply ≡ true
@@ -49,3 +49,9 @@ reason_accepted r = accepted_as (reason_reply r) (omega (arith, reason_kind r, n
 
 pub order_accepted : (trains : List ℕ) → accepted (order_reply trains) ≡ true
 order_accepted trains = accepted_as (order_reply trains) (omega (arith, order_kind trains, number_low Order))
+
+pub screen_accepted : (choices : List ℕ) → accepted (screen_reply choices) ≡ true
+screen_accepted choices = accepted_as (screen_reply choices) (omega (arith, screen_kind choices, number_low Screen))
+
+pub record_accepted : (kind : Kind) (choices : List ℕ) (bound cost : ℕ) → accepted (record_reply kind choices bound cost) ≡ true
+record_accepted kind choices bound cost = accepted_as (record_reply kind choices bound cost) (omega (arith, record_kind kind choices bound cost, number_low kind))

@@ -11,8 +11,11 @@ use Rattle.certificates.specs.declared.certify.Ceiling.{Ceiling}
 use Rattle.reasons.specs.declared.Reason.{Reason}
 use Rattle.frames.proofs.RunDigits.{run_length}
 use Rattle.lines.specs.declared.kind.Kind.{Kind}
+use Rattle.lines.specs.declared.kind.Kind.TheVariants.{Screen}
+use Rattle.lines.specs.Layout.{count_width}
+use Rattle.lines.proofs.Records.{choices_text_length, record_text_length}
 use Rattle.search.specs.declared.answer.Found.{Found}
-use Rattle.replies.specs.Replies.{choice_width, refusal_widths, refusal_reply, bound_widths, bound_reply, certify_widths, certify_reply, search_widths, shown_choice, search_reply, refusal_numbers, bound_numbers, certify_numbers, search_numbers, plan_digits, reason_widths, reason_numbers, reason_reply, order_widths, order_numbers, train_width, trains_digits, order_reply}
+use Rattle.replies.specs.Replies.{choice_width, refusal_widths, refusal_reply, bound_widths, bound_reply, certify_widths, certify_reply, search_widths, shown_choice, search_reply, reply_kind, refusal_numbers, bound_numbers, certify_numbers, search_numbers, plan_digits, reason_widths, reason_numbers, reason_reply, order_widths, order_numbers, numbers_digits, order_reply, screen_reply, record_reply}
 use Rattle.replies.proofs.ReplyFields.{fields_length}
 
 -- a refusal has four characters
@@ -38,4 +41,12 @@ reason_length r = fields_length reason_widths (reason_numbers r) [] refl
 
 pub order_length : (trains : List ℕ) → length (order_reply trains) ≡ 2 + 2 * length trains
 unfolding order_reply
-order_length trains = omega (arith, fields_length order_widths order_numbers (trains_digits trains) refl, run_length train_width (length trains) (nth trains) [])
+order_length trains = omega (arith, fields_length order_widths order_numbers (numbers_digits trains) refl, run_length count_width (length trains) (nth trains) [])
+
+pub screen_length : (choices : List ℕ) → length (screen_reply choices) ≡ 4 + 2 * length choices
+unfolding screen_reply
+screen_length choices = omega (arith, choices_text_length (reply_kind Screen) choices [])
+
+pub record_reply_length : (kind : Kind) (choices : List ℕ) (bound cost : ℕ) → length (record_reply kind choices bound cost) ≡ 28 + 2 * length choices
+unfolding record_reply
+record_reply_length kind choices bound cost = omega (arith, record_text_length (reply_kind kind) choices bound cost)

@@ -2,11 +2,11 @@
 use mathlib.Core.Path.{◌≡◌, refl, ap, ◌∙◌}
 use mathlib.Core.Bool.{Bool, true, false, cond, not, ◌&&◌}
 use mathlib.Core.List.{List, []}
-use Prim.Native.Nat.{ℕ, ◌<◌, ◌^◌}
+use Prim.Native.Nat.{ℕ, ◌*◌, ◌<◌, ◌^◌}
 use native.Mathlib.Omega.{arith}
 use lib.Dec.{eqb}
 use lib.IntN.{ℤ}
-use lib.ListN.{length}
+use lib.ListN.{length, drop}
 use Rattle.theory.specs.Lists.{nth}
 use Rattle.refusals.specs.declared.Refusal.{Refusal}
 use Rattle.refusals.specs.declared.Refusal.TheVariants.{Characters}
@@ -18,11 +18,14 @@ use Rattle.reasons.specs.declared.Reason.{Reason}
 use Rattle.reasons.specs.declared.Reason.TheVariants.{Neither, Own, Partner}
 use Rattle.reasons.specs.Reasons.{reason_number, reason_train}
 use Rattle.lines.specs.declared.kind.Kind.{Kind}
-use Rattle.lines.specs.declared.kind.Kind.TheVariants.{Certify, Search, Explain, Order}
+use Rattle.lines.specs.declared.kind.Kind.TheVariants.{Certify, Search, Explain, Order, Screen}
+use Rattle.lines.specs.Layout.{kind_width, count_width, figure_width, record_trains, record_choice, record_bound, record_cost}
+use Rattle.lines.specs.Text.{choices_digits, record_digits}
 use Rattle.lines.proofs.KindNumbers.{number_low}
+use Rattle.lines.proofs.Records.{first_byte, behind_first, choices_trains, choices_choice, trains_recorded, choice_recorded, bound_recorded, cost_recorded}
 use Rattle.search.specs.declared.answer.Found.{Found}
 use Rattle.search.specs.Answer.{is_found}
-use Rattle.replies.specs.Replies.{figure_width, choice_width, refusal_widths, refusal_byte, refusal_reply, reply_kind, bound_widths, bound_reply, certify_widths, flag, certify_reply, search_widths, ending, shown_cost, shown_choice, search_reply, refusal_numbers, bound_numbers, certify_numbers, search_numbers, plan_digits, reason_widths, reason_numbers, reason_reply, order_widths, order_numbers, train_width, trains_digits, order_reply}
+use Rattle.replies.specs.Replies.{choice_width, refusal_widths, refusal_byte, refusal_reply, reply_kind, bound_widths, bound_reply, certify_widths, flag, certify_reply, search_widths, ending, shown_cost, shown_choice, search_reply, refusal_numbers, bound_numbers, certify_numbers, search_numbers, plan_digits, reason_widths, reason_numbers, reason_reply, order_widths, order_numbers, numbers_digits, order_reply, screen_reply, record_reply}
 use Rattle.replies.specs.Shown.{kind_shown, number_shown, constant_shown, bound_shown, flag_shown, weighted_shown, full_weight_shown, ending_shown, says_ended, says_ended_without, cost_shown, plan_shown, reason_shown, train_shown, order_shown}
 use Rattle.replies.proofs.ReplyFields.{fields_shown, run_shown}
 
@@ -147,8 +150,52 @@ module _ (r : Reason) where
 module _ (trains : List ℕ) where
   pub order_kind : kind_shown (order_reply trains) ≡ reply_kind Order
   unfolding order_reply
-  order_kind = fields_shown order_widths order_numbers (trains_digits trains) refl 0 (omega arith) (omega arith)
+  order_kind = fields_shown order_widths order_numbers (numbers_digits trains) refl 0 (omega arith) (omega arith)
 
-  pub order-shown : (d : ℕ) → d < length trains → nth trains d < 256 ^ train_width → order_shown (order_reply trains) d ≡ nth trains d
+  pub order-shown : (d : ℕ) → d < length trains → nth trains d < 256 ^ count_width → order_shown (order_reply trains) d ≡ nth trains d
   unfolding order_reply
-  order-shown d h q = run_shown order_widths order_numbers train_width (length trains) (nth trains) [] refl d h q
+  order-shown d h q = run_shown order_widths order_numbers count_width (length trains) (nth trains) [] refl d h q
+
+-- ---- 8C
+
+module _ (choices : List ℕ) where
+  pub screen_kind : kind_shown (screen_reply choices) ≡ reply_kind Screen
+  unfolding screen_reply
+  screen_kind = first_byte (reply_kind Screen) (choices_digits choices []) (omega arith)
+
+  pub screen_trains : length choices < 256 → record_trains (screen_reply choices) ≡ length choices
+  unfolding screen_reply
+  screen_trains h = choices_trains (reply_kind Screen) choices [] h
+
+  pub screen_choice : (i : ℕ) → i < length choices → nth choices i < 256 → record_choice (screen_reply choices) i ≡ nth choices i
+  unfolding screen_reply
+  screen_choice i h q = choices_choice (reply_kind Screen) choices [] i h q
+
+-- ---- 8D and 8E
+
+module _ (kind : Kind) (choices : List ℕ) (bound cost : ℕ) where
+  pub record_kind : kind_shown (record_reply kind choices bound cost) ≡ reply_kind kind
+  unfolding record_reply
+  record_kind = first_byte (reply_kind kind) (record_digits choices bound cost) (omega (arith, number_low kind))
+
+  -- the record itself
+  pub record_behind : drop (2 * kind_width) (record_reply kind choices bound cost) ≡ record_digits choices bound cost
+  unfolding record_reply
+  record_behind = behind_first (reply_kind kind) (record_digits choices bound cost)
+
+  pub record_choice_shown : (i : ℕ) → i < length choices → nth choices i < 256 → record_choice (record_reply kind choices bound cost) i ≡ nth choices i
+  unfolding record_reply
+  record_choice_shown i h q = choice_recorded (reply_kind kind) choices bound cost i h q
+
+  module _ (h : length choices < 256) where
+    pub record_trains_shown : record_trains (record_reply kind choices bound cost) ≡ length choices
+    unfolding record_reply
+    record_trains_shown = trains_recorded (reply_kind kind) choices bound cost h
+
+    pub record_bound_shown : bound < 256 ^ figure_width → record_bound (record_reply kind choices bound cost) ≡ bound
+    unfolding record_reply
+    record_bound_shown q = bound_recorded (reply_kind kind) choices bound cost h q
+
+    pub record_cost_shown : cost < 256 ^ figure_width → record_cost (record_reply kind choices bound cost) ≡ cost
+    unfolding record_reply
+    record_cost_shown q = cost_recorded (reply_kind kind) choices bound cost h q

@@ -11,8 +11,10 @@ use Rattle.reasons.specs.Reasons.{reason_number, reason_train}
 use Rattle.frames.specs.Fields.{field_digits}
 use Rattle.frames.specs.Runs.{run_digits}
 use Rattle.lines.specs.declared.kind.Kind.{Kind}
-use Rattle.lines.specs.declared.kind.Kind.TheVariants.{Certify, Search, Explain, Order}
+use Rattle.lines.specs.declared.kind.Kind.TheVariants.{Certify, Search, Explain, Order, Screen}
 use Rattle.lines.specs.Kinds.{kind_number}
+use Rattle.lines.specs.Layout.{kind_width, count_width, figure_width}
+use Rattle.lines.specs.Text.{choices_digits, record_digits}
 use Rattle.search.specs.declared.answer.Found.{Found}
 use Rattle.search.specs.Answer.{is_found, found_cost, found_plan}
 
@@ -28,10 +30,6 @@ fields_digits (w ∷ widths) (v ∷ numbers) rest = field_digits w v (fields_dig
 abbrev pub bytes_in : List ℕ → ℕ
 bytes_in [] = 0
 bytes_in (w ∷ widths) = w + bytes_in widths
-
--- how many bytes a figure in parts or points has in a reply
-abbrev pub figure_width : ℕ
-figure_width = 6
 
 -- 'one byte a train'
 abbrev pub choice_width : ℕ
@@ -51,7 +49,7 @@ refusal_numbers r = refusal_byte ∷ refusal_number r ∷ []
 unfoldable pub refusal_reply : Refusal → List ℕ
 refusal_reply r = fields_digits refusal_widths (refusal_numbers r) []
 
--- ---- 'Kinds 01 to 04: 81 to 84', 'Certify: 85', 'Search: 86', and 88 for 08, 89 for 09, 8A for 0A, 8B for 0B
+-- ---- 'Kinds 01 to 04: 81 to 84', 'Certify: 85', 'Search: 86', and 88 for 08, 89 for 09, 8A for 0A, 8B for 0B, 8C for 0C, 8D for 0D, 8E for 0E
 
 -- the first byte of the reply to a line of this first byte
 abbrev pub reply_byte : ℕ → ℕ
@@ -132,14 +130,20 @@ order_widths = 1 ∷ []
 abbrev pub order_numbers : List ℕ
 order_numbers = reply_kind Order ∷ []
 
-abbrev pub train_width : ℕ
-train_width = 1
-
-abbrev pub trains_digits : List ℕ → List ℕ
-trains_digits trains = run_digits train_width (length trains) (nth trains) []
+-- numbers of trains or of choices, one byte each
+abbrev pub numbers_digits : List ℕ → List ℕ
+numbers_digits numbers = run_digits count_width (length numbers) (nth numbers) []
 
 unfoldable pub order_reply : List ℕ → List ℕ
-order_reply trains = fields_digits order_widths order_numbers (trains_digits trains)
+order_reply trains = fields_digits order_widths order_numbers (numbers_digits trains)
+
+-- ---- document 02, change 11: '8C, n and choices', '8D and the record', '8E, record'
+
+unfoldable pub screen_reply : List ℕ → List ℕ
+screen_reply choices = field_digits kind_width (reply_kind Screen) (choices_digits choices [])
+
+unfoldable pub record_reply : Kind → List ℕ → ℕ → ℕ → List ℕ
+record_reply kind choices bound cost = field_digits kind_width (reply_kind kind) (record_digits choices bound cost)
 
 -- ---- how long replies are
 

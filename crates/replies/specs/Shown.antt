@@ -2,7 +2,8 @@
 use Rattle.std.specs.Prelude.{Bool, not, ◌&&◌, List, ℕ, ◌+◌, ◌*◌, ◌-◌, ◌^◌, ltb, eqb, length, take}
 use Rattle.theory.specs.Lists.{nth}
 use Rattle.frames.specs.Fields.{field}
-use Rattle.replies.specs.Replies.{bytes_in, figure_width, choice_width, refusal_widths, refusal_byte, bound_widths, certify_widths, search_widths, reason_widths, order_widths, train_width}
+use Rattle.lines.specs.Layout.{count_width, figure_width}
+use Rattle.replies.specs.Replies.{bytes_in, choice_width, refusal_widths, refusal_byte, bound_widths, certify_widths, search_widths, reason_widths, order_widths}
 
 -- field k of a reply with fields of these widths
 abbrev pub shown_in : List ℕ → ℕ → List ℕ → ℕ
@@ -71,4 +72,4 @@ train_shown reply = shown_in reason_widths 2 reply
 
 -- document 02, change 10: '8B and the order': the train that is to be tried d-th
 abbrev pub order_shown : List ℕ → ℕ → ℕ
-order_shown reply d = shown_behind order_widths train_width d reply
+order_shown reply d = shown_behind order_widths count_width d reply

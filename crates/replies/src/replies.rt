@@ -1,25 +1,27 @@
 // Document 01, 'Replies'. Each writer asks for room in the buffer that its caller lends: a struct around that would say of its field what `Wrote` says of the buffer.
-ghost use Rattle.std.specs.Prelude.{◌≡◌, ◌++◌, ◌+◌, ◌*◌, ◌<◌, ◌≤◌, length, take};
+ghost use Rattle.std.specs.Prelude.{◌≡◌, [], ◌++◌, ◌+◌, ◌*◌, ◌<◌, ◌≤◌, length, take};
 ghost use Rattle.tables.specs.Block.{max_trains};
 ghost use Rattle.reasons.specs.Reasons.{reason_number, reason_train};
-ghost use Rattle.replies.specs.Replies.{choice_width, train_width, longest_fixed, refusal_reply, reply_kind, bound_reply, certify_reply, ending, shown_cost, shown_choice, plan_digits, search_reply, reason_reply, trains_digits, order_reply};
+ghost use Rattle.units.specs.Units.{number_of_points};
+ghost use Rattle.frames.specs.Fields.{field_digits};
+ghost use Rattle.lines.specs.Layout.{kind_width, count_width};
+ghost use Rattle.lines.specs.Text.{choices_digits, record_bytes};
+ghost use Rattle.replies.specs.Replies.{choice_width, longest_fixed, refusal_reply, reply_kind, bound_reply, certify_reply, ending, shown_cost, shown_choice, plan_digits, search_reply, reason_reply, numbers_digits, order_reply, screen_reply, record_reply};
 ghost use Rattle.replies.specs.Wrote.{Wrote};
 
 use crate::write;
 use certificates::certify::Ceiling;
+use lines::field::Field;
 use lines::kind::Kind;
 use reasons::Reason;
 use refusals::Refusal;
 use search::answer::Found;
 use tables::block;
 use tables::held_study::HeldStudy;
+use units::Points;
 
-// How many bytes a figure in parts or points has, and how many a choice.
-const FIGURE_WIDTH: usize = 6;
-
+// How many bytes a choice has in the reply to a search.
 const CHOICE_WIDTH: usize = 1;
-// How many bytes the number of a train has in a reply.
-const TRAIN_WIDTH: usize = 1;
 // The first byte of the reply to a declined line.
 const REFUSAL_BYTE: u64 = 255;
 // What is added to a kind's number, in the first byte of its reply.
@@ -57,8 +59,8 @@ pub fn write_bound(reply: &mut [u8], kind: Kind, study: HeldStudy<'_>) -> usize
     let bound = bounds::published(study);
     let fields = [
         (1, reply_kind(kind)),
-        (FIGURE_WIDTH, constant.into()),
-        (FIGURE_WIDTH, bound.into()),
+        (Field::FIGURE_WIDTH, constant.into()),
+        (Field::FIGURE_WIDTH, bound.into()),
     ];
     write::put_fields(reply, &fields)
 }
@@ -126,7 +128,7 @@ pub fn write_search(reply: &mut [u8], n: usize, f: Found) -> usize
         (1, reply_kind(Kind::Search)),
         (1, ending(&f)),
         (4, f.count),
-        (FIGURE_WIDTH, shown_cost(&f)),
+        (Field::FIGURE_WIDTH, shown_cost(&f)),
     ];
     let end = write::put_fields(reply, &fields);
     write_plan(reply, end, n, &f)
@@ -167,14 +169,14 @@ pub fn write_reason(reply: &mut [u8], r: Reason) -> usize
     write::put_fields(reply, &fields)
 }
 
-// Writes train numbers, from character `from` on.
-fn write_trains(reply: &mut [u8], from: usize, trains: &[u64]) -> usize
-    requires { from + 2 * (train_width * length trains.now) ≤ length reply.old }
-    ensures { Wrote reply.old (take from reply.old ++ trains_digits trains.now) reply.new result }
+// Writes numbers of trains or of choices, from character `from` on.
+fn write_numbers(reply: &mut [u8], from: usize, numbers: &[u64]) -> usize
+    requires { from + 2 * (count_width * length numbers.now) ≤ length reply.old }
+    ensures { Wrote reply.old (take from reply.old ++ numbers_digits numbers.now) reply.new result }
 {
     let mut at = from;
-    for d in 0..trains.len() {
-        at = write::put_field(reply, at, TRAIN_WIDTH, trains[d]);
+    for k in 0..numbers.len() {
+        at = write::put_field(reply, at, Field::COUNT_WIDTH, numbers[k]);
     }
     at
 }
@@ -186,5 +188,51 @@ pub fn write_order(reply: &mut [u8], trains: &[u64]) -> usize
     ensures { Wrote reply.old (order_reply trains.now) reply.new result }
 {
     let end = write::put_fields(reply, &[(1, reply_kind(Kind::Order))]);
-    write_trains(reply, end, trains)
+    write_numbers(reply, end, trains)
+}
+
+// Writes the kind, n and the choices of a plan.
+fn write_choices(reply: &mut [u8], kind: Kind, choices: &[u64]) -> usize
+    requires { (longest_fixed ≤ length reply.old) × (length choices.now ≤ max_trains) }
+    ensures { Wrote reply.old (field_digits kind_width (reply_kind kind) (choices_digits choices.now [])) reply.new result }
+{
+    let fields = [
+        (Kind::WIDTH, reply_kind(kind)),
+        (Field::COUNT_WIDTH, choices.len() as u64),
+    ];
+    let end = write::put_fields(reply, &fields);
+    write_numbers(reply, end, choices)
+}
+
+// Writes the choices of a record that a screen shows.
+#[tactic(auto, unfolding(crate::specs::Replies::screen_reply))]
+pub fn write_screen(reply: &mut [u8], choices: &[u64]) -> usize
+    requires { (longest_fixed ≤ length reply.old) × (length choices.now ≤ max_trains) }
+    ensures { Wrote reply.old (screen_reply choices.now) reply.new result }
+{
+    write_choices(reply, Kind::Screen, choices)
+}
+
+// How many characters the reply with a record of n trains has.
+pub fn record_length(n: usize) -> usize
+    requires { n ≤ max_trains }
+    ensures { result ≡ 2 * (kind_width + record_bytes n) }
+{
+    2 * (Kind::WIDTH + Field::COUNT_WIDTH + Field::COUNT_WIDTH * n + 2 * Field::FIGURE_WIDTH)
+}
+
+// Writes a record, in reply to a line of this kind.
+pub fn write_record(
+    reply: &mut [u8],
+    kind: Kind,
+    choices: &[u64],
+    bound: Points,
+    cost: Points,
+) -> usize
+    requires { (longest_fixed ≤ length reply.old) × (length choices.now ≤ max_trains) × (2 * (kind_width + record_bytes (length choices.now)) ≤ length reply.old) }
+    ensures { Wrote reply.old (record_reply kind choices.now (number_of_points bound) (number_of_points cost)) reply.new result }
+{
+    let behind = write_choices(reply, kind, choices);
+    let end = write::put_field(reply, behind, Field::FIGURE_WIDTH, bound.into());
+    write::put_field(reply, end, Field::FIGURE_WIDTH, cost.into())
 }

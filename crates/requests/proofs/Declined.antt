@@ -8,12 +8,16 @@ use mathlib.Core.Logic.{◌⊎◌, inl, inr}
 use Prim.Native.Nat.{ℕ, ◌≤◌}
 use native.Mathlib.Omega.{arith}
 use lib.IntN.{ℤ}
+use Rattle.theory.specs.Lists.{nth}
 use Rattle.theory.proofs.Range.{not_both}
 use Rattle.refusals.specs.declared.Refusal.{Refusal}
+use Rattle.refusals.specs.declared.Refusal.TheVariants.{Figures}
 use Rattle.refusals.specs.Verdicts.{Verdict}
 use Rattle.tables.specs.Block.{trains}
 use Rattle.tables.specs.Numbers.{Numbers}
 use Rattle.tables.specs.WellFormed.{well_formed}
+use Rattle.tables.specs.Plans.{loaded_total}
+use Rattle.bounds.specs.Bounds.{bound_of}
 use Rattle.operations.specs.Add.{added, add_outcome}
 use Rattle.operations.specs.Load.{loaded_block}
 use Rattle.operations.specs.Saved.{saved_numbers}
@@ -27,7 +31,7 @@ use Rattle.frames.specs.Runs.{run_of, signed_run_of}
 use Rattle.lines.specs.declared.kind.Kind.{Kind}
 use Rattle.lines.specs.declared.kind.Kind.TheVariants as kind
 use Rattle.lines.specs.declared.request.Request.{Request}
-use Rattle.lines.specs.declared.request.Request.TheVariants.{Load, Add, Shift, Tighten, Certify, Search, Save, Round, Clauses, Explain, Order}
+use Rattle.lines.specs.declared.request.Request.TheVariants.{Load, Add, Shift, Tighten, Certify, Search, Save, Round, Clauses, Explain, Order, Screen, Planner, Record}
 use Rattle.lines.specs.Layout.{count_width, move_width, weight_width}
 use Rattle.lines.specs.Text.{load_digits}
 use Rattle.decoding.specs.Numbers.{numbers_of}
@@ -37,9 +41,10 @@ use Rattle.reasons.specs.Reasons.{reason_at}
 use Rattle.search.specs.Answer.{search_answer}
 use Rattle.replies.specs.Replies.{longest_fixed}
 use Rattle.replies.specs.Shown.{accepted}
-use Rattle.replies.proofs.Accepted.{accepted_as, bound_accepted, certify_accepted, search_accepted, reason_accepted, order_accepted}
-use Rattle.requests.specs.Answer.{Answer, answered, declined, operated, certified, requested, line_answer}
+use Rattle.replies.proofs.Accepted.{accepted_as, bound_accepted, certify_accepted, search_accepted, reason_accepted, order_accepted, screen_accepted, record_accepted}
+use Rattle.requests.specs.Answer.{Answer, answered, declined, operated, certified, recorded, choices_in, requested, line_answer}
 use Rattle.requests.specs.Declined.{Declines}
+use Rattle.requests.proofs.Records.{recorded_cases}
 use Rattle.requests.proofs.LineCases.{line_cases}
 
 -- an accepted answer, or a declined one
@@ -70,6 +75,10 @@ either_certified : (full_weight : ℕ) (c : Result Ceiling Refusal) (b : List �
 either_certified full_weight (Err r) b = either_declined b r
 either_certified full_weight (Ok c) b = inl (certify_accepted full_weight c)
 
+either_recorded : (kind : Kind) (choices : List ℕ) (bound cost : ℕ) (b : List ℤ) → Either b (recorded kind choices bound cost b)
+either_recorded kind choices bound cost b =
+    recorded_cases kind choices bound cost b (Either b) (λ e. inl (record_accepted kind choices bound cost)) (λ e. either_declined b Figures)
+
 module _ (l : List ℕ) (b : List ℤ) where
   pub either_requested : (q : Request) → Either b (requested q l b)
   unfolding requested
@@ -87,6 +96,9 @@ module _ (l : List ℕ) (b : List ℤ) where
   either_requested (Clauses q) = either_operated kind.Clauses (clauses_outcome q.trains q.scale (clauses_of l)) b (loaded_block (clause_numbers_of l))
   either_requested (Explain q) = inl (reason_accepted (reason_at b q.train q.choice q.limit.0))
   either_requested (Order q) = inl (order_accepted (run_of l q.trains.at count_width q.trains.count))
+  either_requested (Screen q) = inl (screen_accepted (choices_in l q.choices))
+  either_requested (Planner q) = either_recorded kind.Planner (choices_in l q.choices) q.bound.0 q.cost.0 b
+  either_requested (Record q) = let choices = choices_in l q.choices in either_recorded kind.Record choices (bound_of b) (loaded_total b (nth choices)) b
 
   -- a line, where there is room for every fixed reply
   pub either_line : (room : ℕ) → longest_fixed ≤ room → well_formed b ≡ true → Either b (line_answer l b room)

@@ -1,6 +1,7 @@
--- No reply to a request is empty or longer than the longest reply, and none but a saved line is longer than the longest of the fixed replies.
+-- No reply to a request is empty or longer than the longest reply, and none but a saved line or a plan record is longer than the longest of the fixed replies.
 use Rattle.std.specs.Prelude.{Result, Ok, Err}
 use Rattle.refusals.specs.declared.Refusal.{Refusal}
+use Rattle.refusals.specs.declared.Refusal.TheVariants.{Figures}
 use Rattle.certificates.specs.declared.certify.Ceiling.{Ceiling}
 use mathlib.Core.Path.{◌≡◌, refl}
 use mathlib.Core.Bool.{true}
@@ -9,12 +10,15 @@ use mathlib.Core.List.{List}
 use native.Mathlib.Omega.{arith}
 use lib.IntN.{ℤ}
 use lib.ListN.{length}
+use Rattle.theory.specs.Lists.{nth}
 use Rattle.theory.proofs.Range.{not_both}
 use Rattle.theory.proofs.Lists.{list_length}
 use Rattle.refusals.specs.Verdicts.{Verdict}
-use Rattle.tables.specs.Block.{trains}
+use Rattle.tables.specs.Block.{max_trains, trains}
 use Rattle.tables.specs.WellFormed.{Study}
+use Rattle.tables.specs.Plans.{loaded_total}
 use Rattle.tables.proofs.Study.{trains_range}
+use Rattle.bounds.specs.Bounds.{bound_of}
 use Rattle.operations.specs.Add.{add_outcome}
 use Rattle.operations.specs.Load.{loaded_block}
 use Rattle.clauses.specs.Outcomes.{clauses_outcome}
@@ -26,8 +30,9 @@ use Rattle.frames.specs.Fields.{field}
 use Rattle.frames.specs.Runs.{run_of, signed_run_of}
 use Rattle.lines.specs.declared.kind.Kind.{Kind}
 use Rattle.lines.specs.declared.kind.Kind.TheVariants as kind
+use Rattle.lines.specs.declared.request.FieldRun.{FieldRun}
 use Rattle.lines.specs.declared.request.Request.{Request}
-use Rattle.lines.specs.declared.request.Request.TheVariants.{Load, Add, Shift, Tighten, Certify, Search, Save, Round, Clauses, Explain, Order}
+use Rattle.lines.specs.declared.request.Request.TheVariants.{Load, Add, Shift, Tighten, Certify, Search, Save, Round, Clauses, Explain, Order, Screen, Planner, Record}
 use Rattle.lines.specs.Kinds.{request_kind}
 use Rattle.lines.specs.Layout.{count_width, move_width, weight_width}
 use Rattle.decoding.specs.Numbers.{numbers_of}
@@ -35,11 +40,12 @@ use Rattle.decoding.specs.Clauses.{clauses_of}
 use Rattle.reasons.specs.Reasons.{reason_at}
 use Rattle.search.specs.Answer.{search_answer}
 use Rattle.replies.specs.Replies.{longest_fixed, longest_reply}
-use Rattle.replies.proofs.Lengths.{bound_length, certify_length, search_length, reason_length, order_length, refusal_length}
+use Rattle.replies.proofs.Lengths.{bound_length, certify_length, search_length, reason_length, order_length, screen_length, record_reply_length, refusal_length}
 use Rattle.saving.proofs.Together.{save_length, save_most}
-use Rattle.requests.specs.Answer.{operated, certified, requested, fixed_reply}
-use Rattle.requests.specs.Wrote.{Asks}
-use Rattle.requests.proofs.Ready.{study_ready, order_ready}
+use Rattle.requests.specs.Answer.{operated, certified, recorded, choices_in, requested, fixed_reply}
+use Rattle.requests.specs.Wrote.{Asks, Chooses}
+use Rattle.requests.proofs.Ready.{study_ready, order_ready, screen_ready, planner_ready, plan_ready}
+use Rattle.requests.proofs.Records.{recorded_cases}
 
 -- a reply of so many characters at most, but not empty
 abbrev pub UpTo : ℕ → List ℕ → Type 0
@@ -52,6 +58,10 @@ operated_short kind (Err r) old new = omega (arith, refusal_length r)
 certified_short : (full_weight : ℕ) (c : Result Ceiling Refusal) (b : List ℤ) → UpTo longest_fixed (certified full_weight c b).reply
 certified_short full_weight (Err r) b = omega (arith, refusal_length r)
 certified_short full_weight (Ok c) b = omega (arith, certify_length full_weight c)
+
+-- no more choices than there may be trains
+choices_most : {l : List ℕ} {b : List ℤ} {run : FieldRun} → Chooses l b run → length (choices_in l run) ≤ max_trains
+choices_most {l} {b} {run} c = omega (arith, list_length (λ k. field l (run.at + count_width * k) count_width) run.count, c.there.count)
 
 -- a fixed reply
 pub requested_short : (l : List ℕ) (b : List ℤ) (room : ℕ) (q : Request) → fixed_reply (request_kind q) ≡ true → Asks l b q room → UpTo longest_fixed (requested q l b).reply
@@ -72,6 +82,14 @@ requested_short l b room (Explain q) e a = omega (arith, reason_length (reason_a
 requested_short l b room (Order q) e a =
     let r = order_ready a in
     omega (arith, order_length (run_of l q.trains.at count_width q.trains.count), list_length (λ k. field l (q.trains.at + count_width * k) count_width) q.trains.count, r.count, trains_range r.study)
+requested_short l b room (Screen q) e a = omega (arith, screen_length (choices_in l q.choices), choices_most (screen_ready a))
+requested_short l b room (Planner q) e a = absurd (not_both e refl)
+requested_short l b room (Record q) e a = absurd (not_both e refl)
+
+-- a record of as many trains as there may be has 76 characters
+recorded_most : (kind : Kind) (choices : List ℕ) (bound cost : ℕ) (b : List ℤ) → length choices ≤ max_trains → UpTo longest_reply (recorded kind choices bound cost b).reply
+recorded_most kind choices bound cost b h =
+    recorded_cases kind choices bound cost b (λ a. UpTo longest_reply a.reply) (λ e. omega (arith, record_reply_length kind choices bound cost)) (λ e. omega (arith, refusal_length Figures))
 
 saved_most : (l : List ℕ) (b : List ℤ) → Study b → UpTo longest_reply (requested Save l b).reply
 unfolding requested
@@ -79,5 +97,9 @@ saved_most l b s = (omega (arith, save_length s), save_most s)
 
 -- every reply
 pub requested_most : (l : List ℕ) (b : List ℤ) (room : ℕ) (q : Request) → Asks l b q room → UpTo longest_reply (requested q l b).reply
+unfolding requested
 requested_most l b room Save a = saved_most l b (study_ready a refl)
+requested_most l b room (Planner q) a = recorded_most kind.Planner (choices_in l q.choices) q.bound.0 q.cost.0 b (choices_most (planner_ready a))
+requested_most l b room (Record q) a =
+    let choices = choices_in l q.choices in recorded_most kind.Record choices (bound_of b) (loaded_total b (nth choices)) b (choices_most (plan_ready a))
 requested_most l b room q a = omega (arith, requested_short l b room q refl a)

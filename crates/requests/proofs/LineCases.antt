@@ -10,6 +10,7 @@ use native.Mathlib.Omega.{arith}
 use lib.IntN.{ℤ}
 use lib.ListN.{length}
 use borrow.Author.Tests.{le-ltb, lt-ltb}
+use Rattle.theory.proofs.Range.{not_both}
 use Rattle.refusals.specs.declared.Refusal.{Refusal}
 use Rattle.tables.specs.WellFormed.{well_formed}
 use Rattle.frames.specs.Frames.{max_characters}
@@ -19,7 +20,9 @@ use Rattle.lines.specs.declared.request.Line.TheVariants.{Asked, Refused}
 use Rattle.lines.specs.Kinds.{request_kind}
 use Rattle.reader.specs.Reading.{line_of}
 use Rattle.replies.specs.Replies.{longest_fixed, longest_reply}
+use Rattle.replies.specs.Shown.{accepted}
 use Rattle.replies.proofs.Lengths.{refusal_length}
+use Rattle.replies.proofs.Accepted.{empty_refused}
 use Rattle.requests.specs.Answer.{Answer, answered, declined, requested, fixed_reply, fitted, line_answer}
 use Rattle.requests.specs.Wrote.{Asks}
 use Rattle.requests.proofs.Lengths.{requested_short, requested_most}
@@ -41,8 +44,15 @@ module _ (l : List ℕ) (b : List ℤ) (room : ℕ) where
   late_line : (q : Request) → line_of l b ≡ Asked q → room < length (requested q l b).reply → line_answer l b room ≡ answered b []
   late_line q e h = asked_line q e ∙ rw (lt-ltb room (length (requested q l b).reply) h)
 
-  short_line : (q : Request) → line_of l b ≡ Asked q → length (requested q l b).reply ≤ room → line_answer l b room ≡ requested q l b
+  pub short_line : (q : Request) → line_of l b ≡ Asked q → length (requested q l b).reply ≤ room → line_answer l b room ≡ requested q l b
   short_line q e h = asked_line q e ∙ fitted_same room b (requested q l b) h
+
+  -- an accepted line has the reply to what it asks, for which there is room
+  pub accepted_line : accepted (line_answer l b room).reply ≡ true → (q : Request) → line_of l b ≡ Asked q → (length (requested q l b).reply ≤ room) × (line_answer l b room ≡ requested q l b)
+  accepted_line y q e =
+      dite (dec_lt room (length (requested q l b).reply))
+      (λ (k : room < length (requested q l b).reply). absurd (not_both (rw (late_line q e k) at y) empty_refused))
+      (λ n. let k : length (requested q l b).reply ≤ room = omega arith in (k, short_line q e k))
 
   module _ (h : longest_fixed ≤ room) where
     pub refused_line : (r : Refusal) → line_of l b ≡ Refused r → line_answer l b room ≡ declined b r

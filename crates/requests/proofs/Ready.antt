@@ -12,6 +12,7 @@ use lib.Signed.{mag}
 use Rattle.theory.proofs.Lists.{list_length, list_nth, list_past}
 use Rattle.theory.proofs.Order.{once_cong}
 use Rattle.units.specs.Units.{the_points}
+use Rattle.refusals.specs.Verdicts.{Fine}
 use Rattle.tables.specs.Block.{trains}
 use Rattle.tables.specs.LineLimits.{max_move, max_budget}
 use Rattle.tables.specs.WellFormed.{Study}
@@ -38,16 +39,21 @@ use Rattle.lines.specs.declared.request.Search.{Search}
 use Rattle.lines.specs.declared.request.Clauses.{Clauses as ClauseFields}
 use Rattle.lines.specs.declared.request.Explain.{Explain}
 use Rattle.lines.specs.declared.request.Order.{Order}
+use Rattle.lines.specs.declared.request.Screen.{Screen}
+use Rattle.lines.specs.declared.request.Planner.{Planner}
+use Rattle.lines.specs.declared.request.Record.{Record}
 use Rattle.lines.specs.declared.request.Request.{Request}
-use Rattle.lines.specs.declared.request.Request.TheVariants.{Load as load_of, Add as add_of, Shift as shift_of, Certify as certify_of, Search as search_of, Clauses as clauses_request, Explain as explain_of, Order as order_of}
+use Rattle.lines.specs.declared.request.Request.TheVariants.{Load as load_of, Add as add_of, Shift as shift_of, Certify as certify_of, Search as search_of, Clauses as clauses_request, Explain as explain_of, Order as order_of, Screen as screen_of, Planner as planner_of, Record as record_of}
 use Rattle.lines.specs.Kinds.{needs_study, request_kind}
-use Rattle.lines.specs.Layout.{add_train, add_choice, add_points, certify_full_weight, search_budget, explain_train, explain_choice, explain_limit, order_field, order_train, number_in, signed_in, further, lift_field, move_field, weight_field}
+use Rattle.lines.specs.Layout.{add_train, add_choice, add_points, certify_full_weight, search_budget, explain_train, explain_choice, explain_limit, order_field, order_train, record_trains, record_choice_field, record_bound, record_cost, plan_choice_field, number_in, signed_in, further, lift_field, move_field, weight_field}
 use Rattle.lines.specs.Verdicts.{field_run}
+use Rattle.kinds.specs.Records.{record_verdict}
 use Rattle.kinds.proofs.Accepted.{add_fine, shift_fine, certify_fine, search_fine, explain_fine, order_fine}
+use Rattle.kinds.proofs.RecordsAccepted.{record_fine, record_trains_held, record_choices_there, record_listed, plan_fine, plan_choices_there, plan_listed}
 use Rattle.decoding.proofs.LoadRange.{load_in_range}
 use Rattle.decoding.proofs.ClausesRange.{clauses_in_limits}
 use Rattle.reader.proofs.LineAccepted.{Makes, line_makes, frame_length, add_there, weight_below, explain_there, limit_below}
-use Rattle.requests.specs.Wrote.{Asks, Loads, Adds, Shifts, Certifies, LoadsClauses, Explains, Orders}
+use Rattle.requests.specs.Wrote.{Asks, Loads, Adds, Shifts, Certifies, LoadsClauses, Explains, Orders, Chooses}
 
 module _ {l : List ℕ} {b : List ℤ} {q : Request} {room : ℕ} (a : Asks l b q room) where
   makes : Makes l b q
@@ -172,6 +178,39 @@ order_ready {l} {b} {q} a =
       inside = omega (arith, f.ends, even a);
       once = once_cong (trains b) _ (order_train l) (λ d h. list_nth (order_train l) 0 (trains b) d h) ∙ f.once;
     })
+
+-- ---- 0C and 0D, a record that is read
+
+record_ready : {l : List ℕ} {b : List ℤ} → Study b → record_verdict l b ≡ Fine → Chooses l b (field_run record_choice_field.at (record_trains l))
+record_ready {l} {b} s v =
+    let f = record_fine l b v in
+    record {
+      study = s;
+      there = record { count = omega (arith, record_trains_held f, trains_range s); inside = record_choices_there f };
+      held = record_listed f;
+    }
+
+pub screen_ready : {l : List ℕ} {b : List ℤ} {q : Screen} {room : ℕ} → Asks l b (screen_of q) room → Chooses l b q.choices
+screen_ready {l} {b} {q} a =
+    let m = makes a in
+    let e : q ≡ record { choices = field_run record_choice_field.at (record_trains l) } = cc in
+    rw e (record_ready (study_ready a refl) m.1)
+
+pub planner_ready : {l : List ℕ} {b : List ℤ} {q : Planner} {room : ℕ} → Asks l b (planner_of q) room → Chooses l b q.choices
+planner_ready {l} {b} {q} a =
+    let m = makes a in
+    let e : q ≡ record { choices = field_run record_choice_field.at (record_trains l); bound = the_points (record_bound l); cost = the_points (record_cost l) } = cc in
+    rw e (record_ready (study_ready a refl) m.1)
+
+-- ---- 0E, a plan whose record is to be written
+
+pub plan_ready : {l : List ℕ} {b : List ℤ} {q : Record} {room : ℕ} → Asks l b (record_of q) room → Chooses l b q.choices
+plan_ready {l} {b} {q} a =
+    let m = makes a in
+    let e : q ≡ record { choices = field_run plan_choice_field.at (trains b) } = cc in
+    let s = study_ready a refl in
+    let f = plan_fine l b m.1 in
+    rw e (record { study = s; there = record { count = (trains_range s).1; inside = plan_choices_there f }; held = plan_listed f })
 
 -- ---- a shift, a tightening or a directional round leaves a study, done or declined
 

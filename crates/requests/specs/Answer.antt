@@ -1,11 +1,15 @@
 -- Document 01: the answer to a line on a well-formed block, from the line, the block and the room for the reply to the block and the reply.
+use Rattle.theory.specs.Lists.{nth}
 use Rattle.std.specs.Prelude.{Bool, true, false, cond, List, [], ℕ, ltb, ℤ, length, Result, Ok, Err}
 use Rattle.refusals.specs.declared.Refusal.{Refusal}
-use Rattle.refusals.specs.declared.Refusal.TheVariants.{Malformed}
+use Rattle.refusals.specs.declared.Refusal.TheVariants.{Malformed, Figures}
 use Rattle.refusals.specs.Verdicts.{Verdict}
 use Rattle.units.specs.Units.{number_of_points}
 use Rattle.tables.specs.Block.{trains}
 use Rattle.tables.specs.WellFormed.{well_formed}
+use Rattle.tables.specs.Plans.{loaded_total}
+use Rattle.bounds.specs.Bounds.{bound_of}
+use Rattle.records.specs.Records.{record_right}
 use Rattle.operations.specs.Add.{added, add_outcome}
 use Rattle.operations.specs.Load.{loaded_block}
 use Rattle.operations.specs.Order.{ordered_block}
@@ -19,9 +23,10 @@ use Rattle.certificates.specs.declared.certify.Ceiling.{Ceiling}
 use Rattle.certificates.specs.Certify.{weights_of, certificate}
 use Rattle.frames.specs.Runs.{run_of, signed_run_of}
 use Rattle.lines.specs.declared.kind.Kind.{Kind}
+use Rattle.lines.specs.declared.request.FieldRun.{FieldRun}
 use Rattle.lines.specs.declared.kind.Kind.TheVariants as kind
 use Rattle.lines.specs.declared.request.Request.{Request}
-use Rattle.lines.specs.declared.request.Request.TheVariants.{Load, Add, Shift, Tighten, Certify, Search, Save, Round, Clauses, Explain, Order}
+use Rattle.lines.specs.declared.request.Request.TheVariants.{Load, Add, Shift, Tighten, Certify, Search, Save, Round, Clauses, Explain, Order, Screen, Planner, Record}
 use Rattle.lines.specs.declared.request.Line.{Line}
 use Rattle.lines.specs.declared.request.Line.TheVariants.{Asked, Refused}
 use Rattle.lines.specs.Layout.{count_width, move_width, weight_width}
@@ -31,7 +36,7 @@ use Rattle.decoding.specs.Clauses.{clauses_of, clause_numbers_of}
 use Rattle.reader.specs.Reading.{line_of}
 use Rattle.reasons.specs.Reasons.{reason_at}
 use Rattle.search.specs.Answer.{search_answer}
-use Rattle.replies.specs.Replies.{refusal_reply, bound_reply, certify_reply, search_reply, reason_reply, order_reply}
+use Rattle.replies.specs.Replies.{refusal_reply, bound_reply, certify_reply, search_reply, reason_reply, order_reply, screen_reply, record_reply}
 
 -- the block after the call, and the reply
 pub record Answer : Type 0 where
@@ -60,6 +65,14 @@ certified full_weight (Err r) b = declined b r
 abbrev pub saved : List ℤ → Answer
 saved b = answered b (load_digits (saved_numbers b))
 
+-- document 02, change 11: a record with this bound and this cost, where it is right, else 23; it changes nothing in the block
+abbrev pub recorded : Kind → List ℕ → ℕ → ℕ → List ℤ → Answer
+recorded kind choices bound cost b = cond (record_right b (nth choices) bound cost) (answered b (record_reply kind choices bound cost)) (declined b Figures)
+
+-- the choices that a line gives
+abbrev pub choices_in : List ℕ → FieldRun → List ℕ
+choices_in l run = run_of l run.at count_width run.count
+
 -- what each request does, with the long fields read from the line. 'Forbidden entries stay so': where moves end, what is forbidden is `kept`
 unfoldable pub requested : Request → List ℕ → List ℤ → Answer
 requested (Load q) l b = answered (loaded_block (numbers_of l)) (bound_reply kind.Load (loaded_block (numbers_of l)))
@@ -76,6 +89,9 @@ requested Round l b = operated kind.Round (direct_outcome b) b (kept b (directed
 requested (Clauses q) l b = operated kind.Clauses (clauses_outcome q.trains q.scale (clauses_of l)) b (loaded_block (clause_numbers_of l))
 requested (Explain q) l b = answered b (reason_reply (reason_at b q.train q.choice (number_of_points q.limit)))
 requested (Order q) l b = let trains = run_of l q.trains.at count_width q.trains.count in answered (ordered_block trains b) (order_reply trains)
+requested (Screen q) l b = answered b (screen_reply (choices_in l q.choices))
+requested (Planner q) l b = recorded kind.Planner (choices_in l q.choices) (number_of_points q.bound) (number_of_points q.cost) b
+requested (Record q) l b = let choices = choices_in l q.choices in recorded kind.Record choices (bound_of b) (loaded_total b (nth choices)) b
 
 -- what a line asks, done, or the refusal
 abbrev pub carried_out : Line → List ℕ → List ℤ → Answer
@@ -95,8 +111,11 @@ fixed_reply kind.Round = true
 fixed_reply kind.Clauses = true
 fixed_reply kind.Explain = true
 fixed_reply kind.Order = true
+fixed_reply kind.Screen = true
+fixed_reply kind.Planner = false
+fixed_reply kind.Record = false
 
--- the kinds that leave the block as it was, accepted or declined: 'Certify and search change nothing in the block', nor does a save or a reason
+-- the kinds that leave the block as it was, accepted or declined: 'Certify and search change nothing in the block', nor does a save, a reason or a record
 abbrev pub leaves_block : Kind → Bool
 leaves_block kind.Load = false
 leaves_block kind.Add = false
@@ -109,6 +128,9 @@ leaves_block kind.Round = false
 leaves_block kind.Clauses = false
 leaves_block kind.Explain = true
 leaves_block kind.Order = false
+leaves_block kind.Screen = true
+leaves_block kind.Planner = true
+leaves_block kind.Record = true
 
 -- 17: a reply that is longer than the room for it 'hands back an empty part and writes nothing', and leaves the block
 abbrev pub fitted : ℕ → List ℤ → Answer → Answer

@@ -7,7 +7,7 @@ use Rattle.units.specs.Units.{number_of_points}
 use Rattle.tables.specs.Block.{max_trains, max_choices, max_pairs, entries_of_pair, max_cost, trains, size}
 use Rattle.tables.specs.Numbers.{InRange}
 use Rattle.tables.specs.LineLimits.{max_full_weight}
-use Rattle.tables.specs.Plans.{shape_of}
+use Rattle.tables.specs.Plans.{shape_of, choices_held}
 use Rattle.tables.specs.Counts.{move_count}
 use Rattle.tables.specs.WellFormed.{well_formed, Study}
 use Rattle.clauses.specs.Clauses.{InLimits}
@@ -23,6 +23,7 @@ use Rattle.lines.specs.declared.request.Certify.{Certify}
 use Rattle.lines.specs.declared.request.Clauses.{Clauses}
 use Rattle.lines.specs.declared.request.Explain.{Explain}
 use Rattle.lines.specs.declared.request.Order.{Order}
+use Rattle.lines.specs.declared.request.FieldRun.{FieldRun}
 use Rattle.lines.specs.declared.request.Request.{Request}
 use Rattle.lines.specs.declared.request.Request.TheVariants.{Load as load_of, Clauses as clauses_asked}
 use Rattle.lines.specs.declared.request.Line.TheVariants.{Asked}
@@ -34,7 +35,7 @@ use Rattle.decoding.specs.Clauses.{clauses_of}
 use Rattle.reader.specs.Reading.{line_of}
 use Rattle.replies.specs.Replies.{longest_fixed}
 use Rattle.replies.specs.Wrote.{Wrote}
-use Rattle.requests.specs.Answer.{Answer}
+use Rattle.requests.specs.Answer.{Answer, choices_in}
 
 -- the reply of an answer stands in front of a buffer, n is how many characters it has, and the block is the one that the answer leaves
 pub record Answers (a : Answer) (buffer : List ℕ) (left : List ℤ) (after : List ℕ) (n : ℕ) : Type 0 where
@@ -100,3 +101,14 @@ pub record Orders (l : List ℕ) (b : List ℤ) (q : Order) : Type 0 where
   pub count : q.trains.count ≡ trains b
   pub inside : 2 * (q.trains.at + count_width * q.trains.count) ≤ length l
   pub once : each_once q.trains.count (nth (run_of l q.trains.at count_width q.trains.count)) ≡ true
+
+-- choices that stand in the line, no more of them than there may be trains
+pub record ChoicesThere (l : List ℕ) (run : FieldRun) : Type 0 where
+  pub count : run.count ≤ max_trains
+  pub inside : 2 * (run.at + count_width * run.count) ≤ length l
+
+-- choices that stand in the line, one of the block for each train
+pub record Chooses (l : List ℕ) (b : List ℤ) (run : FieldRun) : Type 0 where
+  pub study : Study b
+  pub there : ChoicesThere l run
+  pub held : choices_held (shape_of b) run.count (nth (choices_in l run)) ≡ true

@@ -11,6 +11,7 @@ pub mod line;
 mod load_line;
 mod order_line;
 mod outcome;
+mod record_lines;
 mod round_line;
 mod save_line;
 mod search_line;

@@ -5,8 +5,8 @@ ghost use Rattle.requests.specs.Answer.{requested, fitted, block_answer};
 ghost use Rattle.requests.specs.Wrote.{Answers, Asks};
 
 use crate::{
-    add_line, certify_line, clauses_line, explain_line, load_line, order_line, round_line,
-    save_line, search_line, shift_line, tighten_line,
+    add_line, certify_line, clauses_line, explain_line, load_line, order_line, record_lines,
+    round_line, save_line, search_line, shift_line, tighten_line,
 };
 use lines::request::{Line, Request};
 use refusals::Refusal;
@@ -48,5 +48,13 @@ fn answer_request(line: &[u8], block: &mut Places, reply: &mut [u8], q: Request)
         Request::Clauses(p) => clauses_line::answer_clauses(line, block, reply, p),
         Request::Explain(p) => explain_line::answer_explain(HeldStudy::known(block), reply, p),
         Request::Order(p) => order_line::answer_order(line, block, reply, p),
+        Request::Screen(p) => record_lines::answer_screen(line, reply, p),
+        Request::Planner(p) => record_lines::answer_planner(
+            line,
+            HeldStudy::known(block),
+            reply,
+            p,
+        ),
+        Request::Record(p) => record_lines::answer_record(line, HeldStudy::known(block), reply, p),
     }
 }

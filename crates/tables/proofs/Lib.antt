@@ -7,5 +7,6 @@ pub mod Order
 pub mod Study
 pub mod Apart
 pub mod Plans
+pub mod Held
 pub mod Counting
 pub mod Prices

@@ -1,6 +1,7 @@
 -- Document 01, 'Problem and units': the shape of a problem, its costs, its plans and their totals, above the places of the block.
-use Rattle.std.specs.Prelude.{◌≡◌, Bool, true, List, ◌⊎◌, ℕ, ◌+◌, ◌<◌, ◌≤◌, ℤ, get_or}
+use Rattle.std.specs.Prelude.{◌≡◌, Bool, true, ◌&&◌, List, ◌⊎◌, ℕ, ◌+◌, ◌<◌, ◌≤◌, ltb, eqb, ℤ, get_or}
 use Rattle.theory.specs.Sum.{sum}
+use Rattle.theory.specs.Range.{all}
 use Rattle.tables.specs.Block.{loaded_choice_place, loaded_entry_place, at, trains, pairs, constant, size, first, second, loaded_choice, held_choice, loaded_entry, held_entry}
 use Rattle.tables.specs.WellFormed.{is_open}
 
@@ -36,6 +37,14 @@ pub record IsPlan (s : Shape) (x : ℕ → ℕ) : Type 0 where
   pub below : (i : ℕ) → i < s.trains → x i < s.size i
   pub choices : (i : ℕ) → i < s.trains → s.choice_open i (x i) ≡ true
   pub entries : (k : ℕ) → k < s.pairs → s.entry_open k (x (s.first k)) (x (s.second k)) ≡ true
+
+-- document 02, change 11: n is the number of trains, and each choice is there; where it is not, 'n or a choice not the block's'
+unfoldable pub choices_held : Shape → ℕ → (ℕ → ℕ) → Bool
+choices_held s n x = eqb n s.trains && all n (λ i. ltb (x i) (s.size i))
+
+-- none of a plan's entries is forbidden
+unfoldable pub plan_open : Shape → (ℕ → ℕ) → Bool
+plan_open s x = all s.trains (λ i. s.choice_open i (x i)) && all s.pairs (λ k. s.entry_open k (x (s.first k)) (x (s.second k)))
 
 -- nothing is forbidden
 pub record Open (s : Shape) : Type 0 where

@@ -2,7 +2,7 @@
 // The bounds of i, k, a, a place and a stored number are each of one argument of one call: an index type would be made in each turn of a caller's loop, and read back for each place.
 ghost use Rattle.std.specs.Prelude.{◌≡◌, ◌+◌, ◌*◌, ◌<◌, ◌≤◌, ◌^◌, pos, set};
 ghost use Rattle.units.specs.Units.{number_of_points, number_of_parts, scale_min, scale_max};
-ghost use Rattle.tables.specs.Block.{block_length, max_trains, max_choices, max_pairs, trains_place, scale_place, pairs_place, size_place, first_place, second_place, choice_place, entry_place, at, loaded_choice_place, held_choice_place, order_place, trains, scale, pairs, constant, size, first, second, loaded_choice, held_choice, loaded_entry, order};
+ghost use Rattle.tables.specs.Block.{block_length, max_trains, max_choices, max_pairs, trains_place, scale_place, pairs_place, size_place, first_place, second_place, choice_place, entry_place, at, loaded_choice_place, held_choice_place, loaded_entry_place, order_place, trains, scale, pairs, constant, size, first, second, loaded_choice, held_choice, loaded_entry, order};
 ghost use Rattle.tables.specs.WellFormed.{is_open};
 
 use crate::held_study::HeldStudy;
@@ -174,6 +174,14 @@ pub fn held_choice(b: &Places, i: usize, a: usize) -> Parts
     ensures { number_of_parts result ≡ held_choice b.now i a }
 {
     Parts::from(places::get(b, choice_place(Block::HELD_CHOICES_FROM, i, a)))
+}
+
+// Whether the entry of choices a and c of pair k is open.
+pub fn entry_open(b: &Places, k: usize, a: usize, c: usize) -> bool
+    requires { (k < max_pairs) × (a < max_choices) × (c < max_choices) }
+    ensures { result ≡ is_open (at b.now (loaded_entry_place k a c)) }
+{
+    places::is_open(b, entry_place(Block::LOADED_ENTRIES_FROM, k, a, c))
 }
 
 // H of the choices a and c of pair k.

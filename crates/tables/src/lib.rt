@@ -2,6 +2,7 @@
 #![tactic(auto)]
 
 pub mod block;
+pub mod choices;
 pub mod held_study;
 pub mod orders;
 pub mod place_limits;

@@ -1,6 +1,6 @@
 //! `claims [--reference] SEED SESSIONS`: checks document 01's claims and what is said of rounds, of forbidden entries, of
-//! stopping at the bound, of clauses, of reasons, of bounds in steps and of orders on sessions of small studies, and what is said
-//! of saves on as many sessions over studies of every size and blocks that no line makes.
+//! stopping at the bound, of clauses, of reasons, of bounds in steps, of orders and of records on sessions of small studies, and
+//! what is said of saves and of records on as many sessions over studies of every size and blocks that no line makes.
 
 use reference::claims::{check_session, Tally};
 use reference::random::Random;
@@ -28,6 +28,7 @@ fn run() -> Result<(), Box<dyn Error>> {
         let seed = seeds.number();
         check_session(service, seed, CALLS, &mut tally)?;
         tally.saves.check_session(service, seed, CALLS)?;
+        tally.taken.check_session(service, seed, CALLS)?;
     }
     println!("{tally:?}");
     Ok(())

@@ -1,6 +1,6 @@
 -- Each request has its function, and its case of the definition; a fixed reply fits.
 use mathlib.Core.Path.{refl}
-use Rattle.requests.proofs.Ready.{study_ready, load_ready, add_ready, shift_ready, certify_ready, search_ready, clauses_ready, explain_ready, order_ready}
+use Rattle.requests.proofs.Ready.{study_ready, load_ready, add_ready, shift_ready, certify_ready, search_ready, clauses_ready, explain_ready, order_ready, screen_ready, planner_ready, plan_ready}
 use Rattle.requests.proofs.line.answer_request.Goals as goal
 
 pub answer_load-requires : goal.answer_load-requires
@@ -41,3 +41,18 @@ answer_explain-requires c = let a = rw c.in-Explain.is at c.requires in rw c.kno
 
 pub answer_order-requires : goal.answer_order-requires
 answer_order-requires c = let a = rw c.in-Order.is at c.requires in (a.fits, order_ready a)
+
+pub answer_screen-requires : goal.answer_screen-requires
+answer_screen-requires c = let a = rw c.in-Screen.is at c.requires in (a.fits, (screen_ready a).there)
+
+pub known-requires-in-Planner : goal.known-requires-in-Planner
+known-requires-in-Planner c = study_ready (rw c.in-Planner.is at c.requires) refl
+
+pub answer_planner-requires : goal.answer_planner-requires
+answer_planner-requires c = let a = rw c.in-Planner.is at c.requires in rw c.known-in-Planner.ensures (a.fits, planner_ready a)
+
+pub known-requires-in-Record : goal.known-requires-in-Record
+known-requires-in-Record c = study_ready (rw c.in-Record.is at c.requires) refl
+
+pub answer_record-requires : goal.answer_record-requires
+answer_record-requires c = let a = rw c.in-Record.is at c.requires in rw c.known-in-Record.ensures (a.fits, plan_ready a)
