@@ -9,6 +9,7 @@ use crate::multiples::{Multiples, Tariff};
 use crate::orders::Orders;
 use crate::random::Random;
 use crate::rewriting::Rewriting;
+use crate::rooms::Rooms;
 use crate::saves::Saves;
 use crate::stops::Stops;
 use crate::taken::{Asked, Taken};
@@ -38,6 +39,7 @@ pub struct Tally {
     pub multiples: Multiples,
     pub orders: Orders,
     pub taken: Taken,
+    pub rooms: Rooms,
     pub saves: Saves,
 }
 
@@ -109,14 +111,14 @@ impl Reader<'_> {
 }
 
 /// A plan, and its cost by the ledger.
-type Plans = Vec<(Vec<usize>, i64)>;
+pub(crate) type Plans = Vec<(Vec<usize>, i64)>;
 
 /// "The ledger is fed the lines in order, each with its reply, and nothing of the block." Its costs
 /// are a study in points: scale 1, constant 0, loaded and held costs the same.
 #[derive(PartialEq, Eq)]
-struct Ledger {
+pub(crate) struct Ledger {
     scale: i64,
-    costs: Study,
+    pub(crate) costs: Study,
 }
 
 /// "A line is accepted if its reply isn't empty and doesn't begin with FF."
@@ -124,7 +126,7 @@ pub(crate) fn accepted(reply: &[u8]) -> bool {
     !reply.is_empty() && !reply.starts_with(b"FF")
 }
 
-fn feed(ledger: &mut Option<Ledger>, line: &[u8], reply: &[u8]) {
+pub(crate) fn feed(ledger: &mut Option<Ledger>, line: &[u8], reply: &[u8]) {
     if !accepted(reply) {
         return;
     }
@@ -174,7 +176,7 @@ impl Ledger {
         Self { scale, costs: text.costs(n) }
     }
 
-    fn plans(&self) -> Plans {
+    pub(crate) fn plans(&self) -> Plans {
         let mut plans = vec![Vec::new()];
         for costs in &self.costs.trains {
             let longer = |plan: Vec<usize>| (0..costs.columns).map(move |a| [&plan[..], &[a]].concat());
@@ -491,7 +493,10 @@ impl Step<'_> {
                 ledger.check_saved(reply)?;
                 tally.saves.check_saved(service, block, reply)
             }
-            Some(b"85") => ledger.check_certificate(reply, block[3], plans, random, tally),
+            Some(b"85") => {
+                tally.rooms.check_plan(line, reply, &ledger.costs, plans)?;
+                ledger.check_certificate(reply, block[3], plans, random, tally)
+            }
             Some(b"86") => {
                 ledger.check_search(reply, plans, tally)?;
                 tally.stops.check(block, line, reply)?;

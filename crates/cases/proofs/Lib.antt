@@ -26,3 +26,4 @@ pub mod BlockLimits
 pub mod Order
 pub mod Records
 pub mod PlanCosts
+pub mod Rooms

@@ -6,6 +6,7 @@ pub mod Lines
 pub mod Keeps
 pub mod Kept
 pub mod Found
+pub mod OnePlan
 pub mod SaveClaims
 pub mod RoundClaims
 pub mod RecordClaims
@@ -21,8 +22,10 @@ pub mod Stops
 pub mod BoundSteps
 pub mod Orders
 pub mod Records
+pub mod Rooms
 pub mod ByComputing
 pub mod Uses
 pub mod UsesForbidden
 pub mod UsesSteps
 pub mod UsesRecords
+pub mod UsesRooms

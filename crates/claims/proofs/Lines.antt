@@ -40,6 +40,7 @@ use Rattle.replies.proofs.ReadBack.{refusal_number_lem, constant-shown, bound_sh
 use Rattle.service.specs.Calls.{exchange}
 use Rattle.claims.specs.Ledger.{Ledger, by_kind, cost_of}
 use Rattle.claims.specs.Claims.{PlanOf, DeclinedAs, outside, figures, malformed, scaled_cost, start_costs, BoundClaim, CeilingClaim, SearchClaim, RoundClaim, Partners, ExplainClaim, OrderClaim, ScreenClaim, RecordClaim, PlannerClaim, WrittenClaim, Claim, shown_kind, never_outside, writes_record, AtCall}
+use Rattle.claims.specs.OnePlan.{OnePlan}
 use Rattle.claims.proofs.ByKind.{reply_low}
 
 -- ---- a call, from its line
@@ -84,17 +85,23 @@ pub round_claim : (g : Ledger) (l : List ℕ) (kind : Kind) (b : List ℤ) → c
     → RoundClaim g (exchange l (bound_reply kind b))
 round_claim g l kind b c h settled bound = record { bound = bound; settled = λ o one. rw (constant-shown kind b c, bound_shown_lem kind b h) (settled o one) }
 
--- 85
+-- 85, where 01 is a test's truth
+pub flag_true : (t : Bool) → flag t ≡ 1 → t ≡ true
+flag_true true e = refl
+flag_true false e = absurd (omega (arith, e))
+
 pub ceiling_claim : (g : Ledger) (b : List ℤ) (l : List ℕ) (full_weight : ℕ) (c : Ceiling) → 0 < full_weight → full_weight < 256 ^ 3 → c.weighted < 256 ^ 8
     → c.reached ≡ eqb c.weighted (full_weight * constant b)
+    → (full_weight ≡ 1 → c.reached ≡ true → OnePlan g b l)
     → (Open g.shape → (r : Rival) → IsRival g.shape (scaled_cost g) r → ConstantAtMost full_weight c.weighted r)
     → ((up down : Amounts) → Leaves g.shape (start_costs g) up down → LiftsAtMost g.shape full_weight c.weighted up down) → CeilingClaim g b (exchange l (certify_reply full_weight c))
-ceiling_claim g b l full_weight c z h q e holds moved =
+ceiling_claim g b l full_weight c z h q e one holds moved =
     record {
       full_weight = omega (arith, certify_full_weight_lem full_weight c h, z);
       ceiling = λ o r is. rw (certify_full_weight_lem full_weight c h, certify_weighted full_weight c q) (holds o r is);
       moved_ceiling = λ up down le. rw (certify_full_weight_lem full_weight c h, certify_weighted full_weight c q) (moved up down le);
       reached = rw (certify_full_weight_lem full_weight c h, certify_weighted full_weight c q) (certify_flag full_weight c ∙ ap flag e);
+      one_plan = λ w r. one (sym (certify_full_weight_lem full_weight c h) ∙ w) (flag_true c.reached (sym (certify_flag full_weight c) ∙ r));
     }
 
 -- 86: what is known of the answer

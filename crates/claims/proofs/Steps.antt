@@ -91,6 +91,7 @@ use Rattle.claims.proofs.Found.{ceiling_holds, moved_holds, known_plan, known_lo
 use Rattle.claims.proofs.Keeps.{Keeps, open_in, bound_low, total_most, entry_most, scaled_most, held-total_most}
 use Rattle.claims.proofs.Kept.{load_keeps, judged_keeps, add-scaled, add_keeps, order_keeps}
 use Rattle.claims.proofs.Lines.{at_refused, at_accepted, refused_as, empty_shows, bound_claim, round_claim, ceiling_claim, Right, search_claim, explain_claim, order_claim}
+use Rattle.claims.proofs.OnePlan.{one_plan_holds}
 use Rattle.claims.proofs.SaveClaims.{save_claim}
 use Rattle.claims.proofs.RecordClaims.{screen_right, planner_right, written_right, unwritten_forbidden}
 use Rattle.claims.proofs.RoundClaims.{round_done, round_keeps, round_settled}
@@ -325,7 +326,7 @@ module _ {g : Ledger} {b : List ℤ} (k : Keeps g b) (l : List ℕ) where
           let w = certify_ceiling b (weights_of b (certify_full_weight l) weights) h in
           good_kind g b l kind.Certify (answered b (certify_reply (certify_full_weight l) c)) e (certify_kind (certify_full_weight l) c) k
           (ceiling_claim g b l (certify_full_weight l) c low.0 (omega (arith, low.1)) (omega (arith, certify_fits (certify_full_weight l) weights k.study low.1 h)) (rw w.shown w.reached)
-          (ceiling_holds k (weights_of b (certify_full_weight l) weights) h) (moved_holds k (weights_of b (certify_full_weight l) weights) h))
+          (one_plan_holds k l h) (ceiling_holds k (weights_of b (certify_full_weight l) weights) h) (moved_holds k (weights_of b (certify_full_weight l) weights) h))
 
   found_right : (budget : ℕ) → Right g (trains b) (search_answer b budget)
   found_right budget =

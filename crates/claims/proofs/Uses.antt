@@ -25,6 +25,7 @@ use Rattle.tables.specs.Block.{trains, scale, pairs, constant, size, first, seco
 use Rattle.tables.specs.WellFormed.{fresh_block}
 use Rattle.tables.specs.Numbers.{is_cost, permits, paid}
 use Rattle.tables.specs.Plans.{Open, Branches, LeastOf, PairOf, choice_total, pair_total, total, held_total}
+use Rattle.tables.proofs.Plans.{plan_cong}
 use Rattle.bounds.specs.Bounds.{bound_of}
 use Rattle.clauses.specs.Clauses.{meets, failed, failed_weight}
 use Rattle.certificates.specs.Rival.{as_fraction, plus, times, sum_of, Same, AtMost, Rival, rival_total, IsRival, ConstantAtMost}
@@ -55,6 +56,7 @@ use Rattle.service.specs.Calls.{Call, Exchange, exchange, last_block, exchanges}
 use Rattle.service.proofs.Calls.{answered_line}
 use Rattle.claims.specs.Ledger.{Ledger, numbers_ledger, empty_ledger, fed, ledger_of, cost_of, has_load}
 use Rattle.claims.specs.Claims.{PlanOf, DeclinedAs, scaled_cost, start_costs, BoundClaim, AtLine, AtCall, EachCall, AfterList, Claimed}
+use Rattle.claims.specs.OnePlan.{choice_weight, entry_weight, OnePlan}
 use Rattle.claims.specs.Declined.{RefusedDeclines}
 use Rattle.claims.specs.Rounds.{RoundRaises}
 use Rattle.claims.specs.Stops.{SearchesSooner}
@@ -84,7 +86,7 @@ at_one : (P : ℕ → Type 0) → P 0 → (k : ℕ) → k < 1 → P k
 at_one P p zero h = p
 at_one P p (suc k) h = absurd (omega arith)
 
-at_two : (P : ℕ → Type 0) → P 0 → P 1 → (a : ℕ) → a < 2 → P a
+pub at_two : (P : ℕ → Type 0) → P 0 → P 1 → (a : ℕ) → a < 2 → P a
 at_two P p q zero h = p
 at_two P p q (suc zero) h = q
 at_two P p q (suc (suc a)) h = absurd (omega arith)
@@ -411,6 +413,64 @@ module _ (g : Ledger) (b : List ℤ) where
   no_malformed : (l : List ℕ) → AtCall g b (exchange l (told "" "FF10").reply) → ⊥
   unfolding told DeclinedAs
   no_malformed l a = a.never-malformed (refl, refl)
+
+-- ---- certificates on J with W = 1 that say reached: W, the weights of both trains, and those of the pair
+
+-- a plan's cost, by its two choices
+cost_by : (x : ℕ → ℕ) (a c : ℕ) → x 0 ≡ a → x 1 ≡ c → cost_of j x ≡ cost_of j (plan a c)
+unfolding told load j plan
+cost_by x a c e f =
+    plan_cong j.shape j.costs x (plan a c) (at_two (λ i. x i ≡ plan a c i) e f) (λ k h. at_one (λ k. (j.shape.first k < j.shape.trains) × (j.shape.second k < j.shape.trains)) (omega arith) k h)
+
+-- choices of weight 1 are the plan's
+weighed_only : {b : List ℤ} {l : List ℕ} → (w : OnePlan j b l) (a c : ℕ) → a < 2 → c < 2 → choice_weight j.shape l 0 a ≡ 1 → choice_weight j.shape l 1 c ≡ 1 → (a ≡ w.plan 0) × (c ≡ w.plan 1)
+unfolding told load j plan
+weighed_only {l = l} w a c h q e f =
+    let same = w.only (plan a c) (at_two (λ i. plan a c i < j.shape.size i) h q) (at_two (λ i. choice_weight j.shape l i (plan a c i) ≡ 1) e f) in
+    (same 0 (omega arith), same 1 (omega arith))
+
+module _ {b : List ℤ} where
+  -- no weight is 1
+  no_weights : AtLine j b (told "05000001000000000000000000000000000000000000000000000000" "85010000000000000002000001") → ⊥
+  unfolding told load j
+  no_weights a =
+      let w = (line_claim a Certify refl).one_plan refl refl in
+      at_two (λ c. choice_weight j.shape (told "05000001000000000000000000000000000000000000000000000000" "").line 0 c ≡ 1 → ⊥) (λ e. omega (arith, e)) (λ e. omega (arith, e))
+      (w.plan 0) (w.is_plan.below 0 (omega arith)) (w.choices 0 (omega arith))
+
+  -- plan 01 has weight 1 at its choices, and no entry has any
+  no_entry_weights : AtLine j b (told "05000001000001000000000000000001000000000000000000000000" "85010000000000000002000001") → ⊥
+  unfolding told load j
+  no_entry_weights a =
+      let w = (line_claim a Certify refl).one_plan refl refl in
+      let l = (told "05000001000001000000000000000001000000000000000000000000" "").line in
+      at_two (λ c. (d : ℕ) → d < 2 → entry_weight j.shape l 0 c d ≡ 1 → ⊥) (at_two (λ d. entry_weight j.shape l 0 0 d ≡ 1 → ⊥) (λ e. omega (arith, e)) (λ e. omega (arith, e)))
+      (at_two (λ d. entry_weight j.shape l 0 1 d ≡ 1 → ⊥) (λ e. omega (arith, e)) (λ e. omega (arith, e))) (w.plan 0) (w.is_plan.below 0 (omega arith)) (w.plan 1) (w.is_plan.below 1 (omega arith))
+      (w.entries 0 (omega arith))
+
+  -- both choices of train 0 have weight 1
+  two_plans : AtLine j b (told "05000001000001000001000000000001000000000001000000000001" "85010000000000000002000001") → ⊥
+  unfolding told load j
+  two_plans a =
+      let w = (line_claim a Certify refl).one_plan refl refl in
+      let one = weighed_only w 0 1 (omega arith) (omega arith) refl refl in
+      let other = weighed_only w 1 1 (omega arith) (omega arith) refl refl in
+      omega (arith, one.0, other.0)
+
+  -- weight 1 on plan 00, which costs 3
+  dear_plan : AtLine j b (told "05000001000001000000000001000000000001000000000000000000" "85010000000000000002000001") → ⊥
+  unfolding told load j plan
+  dear_plan a =
+      let w = (line_claim a Certify refl).one_plan refl refl in
+      let is = weighed_only w 0 0 (omega arith) (omega arith) refl refl in
+      let c : cost_of j w.plan ≡ 3 = cost_by w.plan 0 0 (sym is.0) (sym is.1) in
+      let h : cost_of j w.plan ≤ 2 = w.least (plan 0 1) plan_01 in
+      omega (arith, c, h)
+
+  -- by c0 and T no plan comes to less either
+  least_parts : AtLine j b (told "05000001000001000000000000000001000000000001000000000000" "85010000000000000002000001") → (y : ℕ → ℕ) × ((x : ℕ → ℕ) → PlanOf j x → held_total b y ≤ held_total b x)
+  unfolding told
+  least_parts a = let w = (line_claim a Certify refl).one_plan refl refl in (w.plan, w.least_held)
 
 -- ---- document 01's session, its search with the count that document 02, change 6, leaves it
 

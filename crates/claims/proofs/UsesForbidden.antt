@@ -22,10 +22,11 @@ use Rattle.service.specs.Answer.{answer}
 use Rattle.service.specs.Calls.{Exchange}
 use Rattle.claims.specs.Ledger.{Ledger, numbers_ledger}
 use Rattle.claims.specs.Claims.{PlanOf, scaled_cost, start_costs, AtLine, Claimed}
+use Rattle.claims.specs.OnePlan.{choice_weight}
 use Rattle.claims.specs.Forbidden.{ForbiddenStays}
 use Rattle.claims.proofs.ByKind.{line_claim}
 use Rattle.claims.proofs.ByComputing.{each_choice, each_entry, open_lem, plan_test, plan_lem, leaves_test, leaves_lem, same_as, same_lem, above_lem, each_three, three_lem}
-use Rattle.claims.proofs.Uses.{told}
+use Rattle.claims.proofs.Uses.{told, at_two}
 
 -- ---- D and the clique
 
@@ -105,6 +106,22 @@ module _ {b : List ℤ} where
   saved_entry_closed : AtLine clique b (told "07" "01030001020202000000000000000000000000000000000000030001FFFFFFFFFFFF000000FFFFFF0002FFFFFF000000000000FFFFFF0102FFFFFF000000000000FFFFFF") → ⊥
   unfolding told clique_load clique
   saved_entry_closed a = not_both ((line_claim a Save refl).gives.shape_same.entries_open_same 0 0 1 (omega arith) (omega arith) (omega arith)) refl
+
+-- ---- certificates with W = 1 that say reached
+
+module _ {b : List ℤ} where
+  -- of the clique, which has no plan
+  closed_entry : AtLine clique b (told "05000001000001000000000001000000000001000000000001000000000000000000000001000000000000000000000001000000000000000000" "85010000000000000000000001") → ⊥
+  unfolding told
+  closed_entry a = let w = (line_claim a Certify refl).one_plan refl refl in clique_no_plan w.plan w.is_plan
+
+  -- of D, with weight 1 on its forbidden choice
+  closed_choice : AtLine d b (told "05000001000000000001000000000001000000000000000000000001" "85010000000000000002000001") → ⊥
+  unfolding told d_load d
+  closed_choice a =
+      let w = (line_claim a Certify refl).one_plan refl refl in
+      at_two (λ c. choice_weight d.shape (told "05000001000000000001000000000001000000000000000000000001" "").line 0 c ≡ 1 → d.shape.choice_open 0 c ≡ true → ⊥)
+      (λ e o. omega (arith, e)) (λ e o. not_both o refl) (w.plan 0) (w.is_plan.below 0 (omega arith)) (w.choices 0 (omega arith)) (w.is_plan.choices 0 (omega arith))
 
 -- ---- saved lines of D
 

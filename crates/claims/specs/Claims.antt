@@ -24,6 +24,7 @@ use Rattle.replies.specs.Replies.{choice_width, refusal_byte, reply_kind, flag}
 use Rattle.replies.specs.Shown.{kind_shown, accepted, number_shown, constant_shown, bound_shown, flag_shown, weighted_shown, full_weight_shown, says_ended, says_ended_without, cost_shown, plan_shown, shows_plan, reason_shown, train_shown, order_shown}
 use Rattle.service.specs.Calls.{Call, Exchange, last_block, blocks, exchanges}
 use Rattle.claims.specs.Ledger.{Ledger, numbers_ledger, by_kind, fed, ledger_of, empty_ledger, cost_of, has_load}
+use Rattle.claims.specs.OnePlan.{OnePlan}
 
 -- a plan of a ledger
 abbrev pub PlanOf : Ledger → (ℕ → ℕ) → Type 0
@@ -78,6 +79,8 @@ pub record CeilingClaim (g : Ledger) (b : List ℤ) (e : Exchange) : Type 0 wher
   pub moved_ceiling : (up down : Amounts) → Leaves g.shape (start_costs g) up down → LiftsAtMost g.shape (full_weight_shown e.reply) (weighted_shown e.reply) up down
   -- '01 if reached else 00' (`not_reached`, `reached_above`)
   pub reached : flag_shown e.reply ≡ flag (reaches b e.reply)
+  -- document 02, change 12: 'Where such a certificate has W = 1', that says reached, 'the plan with weight 1 everywhere has the least total'
+  pub one_plan : full_weight_shown e.reply ≡ 1 → flag_shown e.reply ≡ 1 → OnePlan g b e.line
 
 -- 'Search: .. 01 ended or 00 spent, count (4), cost (6), one byte a train'; change 5: 02. Of a search that is spent and shows no plan nothing is claimed
 pub record SearchClaim (g : Ledger) (e : Exchange) : Type 0 where

@@ -1,8 +1,10 @@
 -- The laws of the crate: one file for each idea.
 pub mod Spared
 pub mod Sums
+pub mod OneTerm
 pub mod Rewritten
 pub mod Plans
+pub mod Whole
 pub mod Ceilings
 pub mod Clique
 pub mod Alike
