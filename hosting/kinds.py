@@ -183,6 +183,15 @@ def _record_words(facts: Facts) -> str:
     return f"record of {_choices_words(facts)}, bound {counted(facts['bound'], 'point')}, cost {counted(facts['cost'], 'point')}"
 
 
+def _read_dearest(fields: Fields) -> Facts:
+    trains = fields.number(COUNT_WIDTH)
+    return {"trains": trains, "sizes": fields.numbers(trains, COUNT_WIDTH)}
+
+
+def _dearest_words(facts: Facts) -> str:
+    return " ".join([f"dearest study of {counted(facts['trains'], 'train')}, sizes", *map(str, facts["sizes"])])
+
+
 LINES: dict[int, Form] = {
     0x01: Form("load", _read_load, _load_words),
     0x02: Form("add", _read_add, _add_words),
@@ -198,6 +207,7 @@ LINES: dict[int, Form] = {
     0x0C: Form("screen", _read_record, lambda facts: f"screen reads {_record_words(facts)}"),
     0x0D: Form("planner", _read_record, lambda facts: f"planner reads {_record_words(facts)}"),
     0x0E: Form("record", _read_choices, lambda facts: f"record {_choices_words(facts)}"),
+    0x0F: Form("dearest", _read_dearest, _dearest_words),
 }
 
 
@@ -264,8 +274,21 @@ REPLIES: dict[int, Form] = {
     0x8D: Form("record", _read_record, _record_words),
     0x8E: Form("record", _read_record, _record_words),
     DECLINED: Form("declined", _read_declined, "declined, {number}".format_map),
-    0x01: Form("saved", _read_load, lambda facts: f"saved, to {_load_words(facts)}"),
 }
+
+# A reply that is a line to load, by the kind of the line that it answers.
+LOAD = 0x01
+LOAD_REPLIES: dict[int, Form] = {
+    0x07: Form("saved", _read_load, lambda facts: f"saved, to {_load_words(facts)}"),
+    0x0F: Form("dearest", _read_load, lambda facts: f"the dearest study: {_load_words(facts)}"),
+}
+
+
+def replies_to(kind: int | None) -> dict[int, Form]:
+    """The replies to lines of this kind, None being that of a line that is not digits by two."""
+    form = LOAD_REPLIES.get(kind) if kind is not None else None
+    return {**REPLIES, LOAD: form} if form else REPLIES
+
 
 # The README's table of refusals, column 'When', in ASCII. What the header says of lengths is filled in by `reason`.
 REFUSALS: dict[int, str] = {
@@ -292,6 +315,7 @@ REFUSALS: dict[int, str] = {
     21: "an order has not each train exactly once",
     22: "a record's n or a choice is not the block's",
     23: "a record's cost is not its plan's total in loaded costs, its bound is above that, or the plan has a forbidden entry",
+    24: "the sum of the products of the first 1, 2, up to n sizes exceeds 10,000,000",
 }
 
 

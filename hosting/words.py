@@ -23,7 +23,7 @@ FORBIDDEN = -1
 def log(header: Header, lines: Iterable[Stored], as_json: bool = False) -> Iterator[str]:
     """A line of text, or of JSON, for each stored line, in the order given."""
     for stored in lines:
-        request, answer = _read(stored.line, kinds.LINES), _answer(stored.reply, header)
+        request, answer = _read(stored.line, kinds.LINES), _answer(stored.line, stored.reply, header)
         if as_json:
             texts = {"line": _text(stored.line), "reply": _text(stored.reply)}
             yield json.dumps({**stored._asdict(), **texts, "request": request, "answer": answer})
@@ -33,6 +33,11 @@ def log(header: Header, lines: Iterable[Stored], as_json: bool = False) -> Itera
 
 def _text(line: bytes) -> str:
     return line.decode("ascii", "backslashreplace")
+
+
+def _kind(text: bytes) -> int | None:
+    """The kind of a line, where it is digits by two."""
+    return kinds.Fields(text).number(kinds.KIND_WIDTH) if kinds.FRAME.fullmatch(text) else None
 
 
 def _read(text: bytes, forms: dict[int, Form]) -> Facts:
@@ -51,11 +56,11 @@ def _read(text: bytes, forms: dict[int, Form]) -> Facts:
     return {"kind": kind, "name": form.name, **facts, "words": form.words(facts)}
 
 
-def _answer(reply: bytes, header: Header) -> Facts:
-    """What a reply says; an empty one is number 17, which writes nothing."""
+def _answer(line: bytes, reply: bytes, header: Header) -> Facts:
+    """What a line's reply says; an empty one is number 17, which writes nothing."""
     if reply == b"":
         return _declined(kinds.BUFFER_TOO_SMALL, header)
-    facts = _read(reply, kinds.REPLIES)
+    facts = _read(reply, kinds.replies_to(_kind(line)))
     return _declined(facts["number"], header) if "number" in facts else facts
 
 
@@ -99,8 +104,9 @@ def _bound(library: Library, block: bytes, facts: Facts) -> int | None:
     """The bound that the library publishes of this block: what it answers to a shift of nothing."""
     sizes = facts["sizes"]
     numbers = facts["trains"] + sum(sizes[i] + sizes[j] for i, j in facts["pairs"])
-    reply, _ = library.answer(block, b"03" + b"00" * kinds.MOVE_WIDTH * numbers)
-    return _answer(reply, library.header).get("bound")
+    line = b"03" + b"00" * kinds.MOVE_WIDTH * numbers
+    reply, _ = library.answer(block, line)
+    return _answer(line, reply, library.header).get("bound")
 
 
 def _last(header: Header, newest_first: Iterable[Stored], study: Facts) -> Facts:
@@ -111,7 +117,7 @@ def _last(header: Header, newest_first: Iterable[Stored], study: Facts) -> Facts
     found: Facts = {"last_plan": None, "last_ceiling": None}
     added = None
     for stored in newest_first:
-        answer = _answer(stored.reply, header)
+        answer = _answer(stored.line, stored.reply, header)
         at = {"line": stored.number, "added_since": added}
         if answer["kind"] in kinds.LOADED or all(found.values()):
             break

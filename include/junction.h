@@ -9,7 +9,8 @@
 
 /* How many numbers a block has. A fresh block is all zeros. */
 #define JUNCTION_BLOCK_NUMBERS 6676
-/* The smallest reply buffer, in bytes. It holds every reply but the line of a save, kind 07, which may be longer, and the records of kinds 0D and 0E, of 76 at most. */
+/* The smallest reply buffer, in bytes. It holds every reply but the line of a save, kind 07, which may be longer, the records of kinds 0D and 0E, of 76 at most, and the
+ * line of a dearest study, kind 0F, of 514 at most. */
 #define JUNCTION_REPLY_BYTES 72
 /* The longest line, in characters. A longer one is declined under number 2. */
 #define JUNCTION_LINE_CHARACTERS 19834
@@ -28,13 +29,14 @@ extern "C" {
  * the result, the block afterwards and the whole buffer afterwards are those of the definition `answer` in crates/service/specs/Answer.antt. So:
  * - The first bytes of the buffer, as many as the result says, are the reply. Every byte behind them stays as it was.
  * - The block afterwards is the one that an accepted load, of kind 01 or of clauses (09), add, shift, tighten, directional round or order makes; certify,
- *   search, save, explain and the three kinds of plan records (0C to 0E) leave it as it was.
+ *   search, save, explain, the three kinds of plan records (0C to 0E) and the dearest study (0F) leave it as it was.
  * - A declined line is answered FF and the number, four characters, and leaves the block as it was.
  * - A buffer below JUNCTION_REPLY_BYTES is number 17: the result is 0, and the buffer and the block stay as they were. So is a buffer that is shorter than
- *   the line that a save would answer with, where nothing else declines the save, or the record of kind 0D or 0E. Who saves lends JUNCTION_LONGEST_REPLY_BYTES.
+ *   the line that a save would answer with, where nothing else declines the save, or the record of kind 0D or 0E, or the line of kind 0F. Who saves lends
+ *   JUNCTION_LONGEST_REPLY_BYTES.
  * - A block may hold any numbers. One of another length than JUNCTION_BLOCK_NUMBERS, or not well formed, is number 16: FF10.
- * - The reply and the block afterwards depend on the line, the block, whether the buffer has JUNCTION_REPLY_BYTES bytes and, of a save or a record, whether it holds the
- *   saved line or the record, and on nothing else. Of buffers of JUNCTION_LONGEST_REPLY_BYTES or more not even their length counts.
+ * - The reply and the block afterwards depend on the line, the block, whether the buffer has JUNCTION_REPLY_BYTES bytes and, of a save, a record or a dearest study, whether
+ *   it holds the line or the record that is the reply, and on nothing else. Of buffers of JUNCTION_LONGEST_REPLY_BYTES or more not even their length counts.
  *
  * What the caller must see to, and nothing checks:
  * - Each pointer is valid for its length: `line` to read so many bytes, `block` to read and write so many numbers, `reply` so many bytes.

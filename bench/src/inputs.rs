@@ -2,6 +2,8 @@
 
 use reference::clause_lines::clause_fields;
 use reference::clauses::{Clause, Clauses};
+use reference::dearest::{self, tries, MOST_TRIES};
+use reference::dearest_lines::{size_fields, EXACT};
 use reference::generator::{certificate_fields, line_of, load_fields, shift_fields};
 use reference::lines::{digits, put, CLAUSES};
 use reference::model::{self, Cost, Costs, Pair, Study, BLOCK_LENGTH, ORDER};
@@ -65,7 +67,7 @@ pub fn short_inputs() -> Vec<Input> {
     inputs
 }
 
-/// A search with the long budget on each of the full studies.
+/// A search with the long budget on each of the full studies, and on a dearest study that has as many tries.
 pub fn long_inputs() -> Vec<Input> {
     searches("long-search", LONG_BUDGET)
 }
@@ -81,13 +83,15 @@ pub fn all() -> impl Iterator<Item = Input> {
 }
 
 fn searches(name: &str, budget: i64) -> Vec<Input> {
-    let input = |(seed, top): (u64, i64)| Input {
-        name: format!("{name}-{seed}"),
-        block: block_of(&full_study(seed, top, 1)),
+    let full = LONG_STUDIES.map(|(seed, top)| (seed.to_string(), full_study(seed, top, 1)));
+    let dearest = dearest::study(&EXACT).expect("the limit is not passed");
+    let input = |(study_name, study): (String, Study)| Input {
+        name: format!("{name}-{study_name}"),
+        block: block_of(&study),
         line: search_line(budget),
         reply: SEARCH_REPLY,
     };
-    LONG_STUDIES.into_iter().map(input).collect()
+    full.into_iter().chain([("dearest".into(), dearest)]).map(input).collect()
 }
 
 fn inputs_of(size: &str, study: &Study, clauses: Vec<u8>) -> Vec<Input> {
@@ -115,9 +119,11 @@ fn inputs_of(size: &str, study: &Study, clauses: Vec<u8>) -> Vec<Input> {
         ("screen", &held, read_line(study, SCREEN), "8C"),
         ("planner", &held, read_line(study, PLANNER), "8D"),
         ("record", &held, line_of(&write_fields(&last_choices(study))), "8E"),
+        ("dearest", &held, dearest_line(study), "01"),
         ("refused-character", &held, with_end(&longest, b"G"), "FF01"),
         ("refused-cost", &held, with_end(&longest, b"FFFFFE"), "FF07"),
         ("refused-kind", &held, b"10".to_vec(), "FF03"),
+        ("refused-tries", &held, line_of(&size_fields(&[8; 24])), "FF18"),
     ];
     let input = |(name, block, line, reply): (&str, &Vec<i64>, Vec<u8>, &'static str)| Input {
         name: format!("{name}-{size}"),
@@ -238,6 +244,17 @@ fn last_choices(study: &Study) -> Vec<i64> {
 /// A line of this kind that reads the record of that plan.
 fn read_line(study: &Study, kind: i64) -> Vec<u8> {
     line_of(&read_fields(kind, &true_record(study, last_choices(study))))
+}
+
+/// The dearest study of the study's sizes, as many of the first ones taken as 1 as the limit of tries asks for.
+fn dearest_line(study: &Study) -> Vec<u8> {
+    let size = |train: usize| study.trains[train].columns;
+    let all = 0..study.trains.len();
+    let sizes = |ones: usize| -> Vec<usize> {
+        all.clone().map(|train| if train < ones { 1 } else { size(train) }).collect()
+    };
+    let mut taken = all.clone().map(sizes).filter(|sizes| tries(sizes) <= MOST_TRIES);
+    line_of(&size_fields(&taken.next().expect("ones and the last size are few")))
 }
 
 fn search_line(budget: i64) -> Vec<u8> {

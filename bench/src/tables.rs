@@ -20,9 +20,9 @@ pub fn print() -> Result<(), Box<dyn Error>> {
         print_line(&input)?;
     }
     println!();
-    println!("{:<24}{:^30}{:^30}{:^30}", "", "million tries a second", "ours / expert", "ours / reference");
+    println!("{:<30}{:^30}{:^30}{:^30}", "", "million tries a second", "ours / expert", "ours / reference");
     println!(
-        "{:<14}{:>10}{:>10}{:>10}{:>10}{RATIO_HEAD}{RATIO_HEAD}",
+        "{:<20}{:>10}{:>10}{:>10}{:>10}{RATIO_HEAD}{RATIO_HEAD}",
         "a long search", "tries", "ours", "expert", "reference"
     );
     for input in inputs::long_inputs() {
@@ -44,11 +44,14 @@ fn print_conditions() {
          small: document 01's J, 2 trains of 2 choices, 1 pair. full: 24 trains of 8 choices, 48 pairs, seed {},\n\
          costs to 1000000. Search: budget {}; turned, and the order: the last train first. Screen, planner and\n\
          record: of each train's last choice. Refused: a wrong character, or a cost too high, at the very end\n\
-         of a load of {LONGEST_LINE} characters; a kind 10. Save: a reply of {LONGEST_LINE} characters for the full study.\n\
+         of a load of {LONGEST_LINE} characters; a kind 10; 24 trains of 8 choices, whose tries are too many.\n\
+         Save: a reply of {LONGEST_LINE} characters for the full study. Dearest: of J's sizes; of 17 trains of one\n\
+         choice and 7 of 8.\n\
          Clauses: 3 over 2 trains; 500 over 24 trains that name 48 pairs. Steps: behind a tightening, so that\n\
          the bound is above 0; fives: as full, all costs being multiples of 5.\n\
          Long search: budget {}, full studies of the seeds\n\
-         {studies}; {LONG_ROUNDS} rounds.\n\
+         {studies}, and a dearest\n\
+         study, 13 trains without pairs, that has as many tries; {LONG_ROUNDS} rounds.\n\
          Tries a second are those of the fastest round. Least: the ratio of the fastest rounds. Median and\n\
          quartiles: of the ratios of the two times of each round.\n",
         inputs::SEED,
@@ -81,7 +84,7 @@ fn print_search(input: &Input) -> Result<(), Box<dyn Error>> {
     let [ours, reference, expert] = &times[..] else { return Err("not all services answer".into()) };
     let rate = |times: &Rounds| tries as f64 / times.least() * 1e3;
     println!(
-        "{:<14}{:>10}{:>10.0}{:>10.0}{:>10.0}{}{}",
+        "{:<20}{:>10}{:>10.0}{:>10.0}{:>10.0}{}{}",
         input.name,
         tries,
         rate(ours),

@@ -87,8 +87,26 @@ class Log(unittest.TestCase):
         self.assertEqual(in_words("0E", "FF 05").split("  ->")[0], "record choices")
         self.assertIn("or the record that it answers with", in_words("0E 0001", "").split("->  ")[1])
 
+    def test_dearest_studies(self) -> None:
+        reply = "01 02 0001 0201 000000000000 000001 00"
+        load = "load 2 trains, scale 1, sizes 2 1, 0 pairs"
+        self.assertEqual(in_words("0F 02 0201", reply), f"dearest study of 2 trains, sizes 2 1  ->  the dearest study: {load}")
+        self.assertEqual(in_words("07", reply), f"save  ->  saved, to {load}")
+        self.assertEqual(in_words("0F 01 01", "01 02").split("->  ")[1], "dearest, cut short")
+        self.assertEqual(in_words("0F 08 0808080808080808", "FF 18").split("->  ")[1], f"declined, 24: {kinds.REFUSALS[24]}")
+        self.assertEqual(in_words("0F 00", "FF 06").split("  ->")[0], "dearest study of 0 trains, sizes")
+        self.assertEqual(in_words("0F 02 02", "FF 05").split("  ->")[0], "dearest, cut short")
+
+    def test_a_load_line_says_what_it_is_for_by_the_line_that_it_answers(self) -> None:
+        reply = "01 01 0001 01 000001 00"
+        for line in ("04", "0G", "0", ""):
+            self.assertEqual(in_words(line, reply).split("->  ")[1], "kind 01")
+        for line, name in (("07", "saved"), ("0F 0101", "dearest")):
+            entry = json.loads(next(words.log(HEADER, [Stored(1, TIME, "", digits(line), digits(reply), "")], as_json=True)))
+            self.assertEqual((entry["answer"]["name"], entry["answer"]["sizes"]), (name, [1]))
+
     def test_what_is_not_known_is_its_number(self) -> None:
-        self.assertEqual(in_words("0F 0001", "8F 0001"), "kind 0F  ->  kind 8F")
+        self.assertEqual(in_words("10 0001", "90 0001"), "kind 10  ->  kind 90")
         self.assertEqual(in_words("04", "FF 63"), "tighten  ->  declined, 99")
 
     def test_damaged_texts(self) -> None:
@@ -213,6 +231,12 @@ class Show(unittest.TestCase):
         self.take("06 0000000A")
         self.take("0E 01")
         self.assertEqual((self.facts()["last_plan"]["line"], self.facts()["last_plan"]["plan"]), (5, [0]))
+
+    def test_a_dearest_study_is_not_loaded_by_its_line(self) -> None:
+        self.take(CLOSED_CHOICE)
+        self.take("06 0000000A")
+        self.take("0F 03 020304")
+        self.assertEqual((self.facts()["sizes"], self.facts()["last_plan"]["line"]), ([2], 2))
 
     def test_a_load_forgets_plan_and_ceiling(self) -> None:
         self.take("01 01 0001 01 000002 00")

@@ -1,6 +1,8 @@
 //! The claims of "Lists and the ledger", of saves, of rounds, of forbidden entries, of stopping at the bound, of clauses, of
-//! reasons, of bounds in steps, of orders and of records, checked from the outside by every plan of small studies.
+//! reasons, of bounds in steps, of orders, of records and of dearest studies, checked from the outside by every plan of small
+//! studies.
 
+use crate::dearest::Dearest;
 use crate::generator::{Reach, Session};
 use crate::lines;
 use crate::literals::{Literals, Text};
@@ -40,6 +42,7 @@ pub struct Tally {
     pub orders: Orders,
     pub taken: Taken,
     pub rooms: Rooms,
+    pub dearest: Dearest,
     pub saves: Saves,
 }
 
@@ -417,7 +420,7 @@ impl Step<'_> {
         self.line.starts_with(kind)
     }
 
-    /// The call as one that may write or read a record: the block stays then.
+    /// The call as one that leaves the block, with its buffer.
     fn asked(&self) -> Asked<'_> {
         let Step { service, capacity, line, reply, block, .. } = *self;
         Asked { service, block, capacity, line, reply }
@@ -427,8 +430,8 @@ impl Step<'_> {
     fn check_change(&self) -> Result<(), String> {
         let same = self.block == self.before;
         demand(accepted(self.reply) || same, "a refused line changed the block")?;
-        let leaves = [b"07", b"0A", b"0C", b"0D", b"0E"].into_iter().any(|kind| self.is(kind));
-        demand(!leaves || same, "a save, a reason or a record changed the block")?;
+        let leaves = [b"07", b"0A", b"0C", b"0D", b"0E", b"0F"].into_iter().any(|kind| self.is(kind));
+        demand(!leaves || same, "a save, a reason, a record or a dearest study changed the block")?;
         let rewriting = self.is(b"04") || self.is(b"08");
         demand(!rewriting || self.block[3] >= self.before[3], "tighten or round lowered the constant")
     }
@@ -463,6 +466,7 @@ impl Step<'_> {
         self.check_change()?;
         tally.orders.check_block(self.line, self.reply, self.before, self.block)?;
         tally.taken.check_asked(&self.asked(), random)?;
+        tally.dearest.check_asked(&self.asked(), random)?;
         tally.calls += 1;
         tally.falls += usize::from(self.reply.starts_with(b"83") && self.block[3] < self.before[3]);
         let Some(ledger) = ledger else { return Ok(()) };
@@ -487,8 +491,9 @@ impl Step<'_> {
     ) -> Result<(), String> {
         let Step { service, line, reply, before, block, .. } = *self;
         match reply.get(..2) {
-            // Records are checked before, with the lines that are refused.
+            // Records and dearest studies are checked before, with the lines that are refused.
             None | Some(b"FF" | b"8C" | b"8D" | b"8E") => Ok(()),
+            Some(b"01") if self.is(b"0F") => Ok(()),
             Some(b"01") => {
                 ledger.check_saved(reply)?;
                 tally.saves.check_saved(service, block, reply)

@@ -2,7 +2,7 @@
 
 use crate::clauses::{Clause, Clauses};
 use crate::generator::Fields;
-use crate::lines::{self, CLAUSES};
+use crate::lines::{self, Kind, CLAUSES};
 use crate::model::COSTS;
 use crate::random::Random;
 use crate::studies::{pairs, scale, shuffled_pairs, MOST_PAIRS};
@@ -22,6 +22,13 @@ pub fn clause_fields(clauses: &Clauses) -> Fields {
         fields.extend([(1, *first), (1, *second), (3, *weight)]);
     }
     fields
+}
+
+/// How many trains a line has that is one of clauses and no field of which is refused.
+pub fn trains(line: &[u8]) -> Option<usize> {
+    let (kind, fields) = lines::open(line).ok()?;
+    let clauses = matches!(kind, Kind::Clauses).then(|| lines::clauses(fields).ok())?;
+    Some(clauses?.trains)
 }
 
 /// The fields of clauses over n trains, now and then spoilt where only clauses can be.
@@ -55,7 +62,7 @@ fn cut(random: &mut Random, fields: &mut Fields, count: usize) {
 
 /// Clauses for the pairs of some shape, or for as many as there may be, or for more; further ones, many of which repeat
 /// one or turn it over; some of one literal; now and then all of one weight.
-fn any_clauses(random: &mut Random, n: usize) -> Vec<Clause> {
+pub(crate) fn any_clauses(random: &mut Random, n: usize) -> Vec<Clause> {
     let mut keys = match random.chance(35) {
         true => shuffled_pairs(random, n),
         false => pairs(random, n, false),

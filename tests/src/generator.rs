@@ -2,6 +2,8 @@
 
 use crate::calls::{Call, Outcome, Setting};
 use crate::clause_lines;
+use crate::dearest;
+use crate::dearest_lines::{self, few_tries};
 use crate::lines::{self, LONGEST_LINE, MOVES};
 use crate::model::{self, Cost, Costs, Pair, Study, BLOCK_LENGTH, FORBIDDEN, HELD_ENTRIES, ORDER, TOP};
 use crate::operations::{self, Certificate, Shift};
@@ -81,14 +83,15 @@ impl Session {
         Call { capacity, setting, line }
     }
 
-    /// A buffer's length: of a line of kind 07 mostly one beside the length of the study's load line, and of kinds 0C to 0E,
-    /// where a record is about as long as the least buffer or longer, beside that of a record.
+    /// A buffer's length: of a line of kind 07 mostly one beside the length of the study's load line, and of kinds 0C to 0F,
+    /// where a record or the dearest study's line is about as long as the least buffer or longer, beside that of its reply.
     fn capacity(&mut self, line: &[u8], study: Option<&Study>) -> usize {
         let length = match (line.get(..2), study) {
             (Some(b"07"), Some(study)) => Some(2 * lines::saved(study).len()),
             (Some(b"0C" | b"0D" | b"0E"), Some(study)) => {
                 Some(records::length(study.trains.len())).filter(|&length| length >= LEAST_BUFFER)
             }
+            (Some(b"0F"), _) => dearest_lines::length(line).filter(|&length| length >= LEAST_BUFFER),
             _ => None,
         };
         match length {
@@ -277,9 +280,11 @@ impl Session {
             return self.junk();
         }
         let fresh = study.is_none();
-        let mut fields = match self.random.chance(if fresh { 20 } else { 3 }) {
-            true => self.clauses(),
-            false => self.fields(study),
+        let [dearest, clauses] = if fresh { [8, 20] } else { [3, 3] };
+        let mut fields = match self.random.below(100) {
+            percent if percent < dearest => dearest_lines::any_fields(&mut self.random),
+            percent if percent < dearest + clauses => self.clauses(),
+            _ => self.fields(study),
         };
         if self.random.chance(15) {
             self.spoil(&mut fields);
@@ -288,7 +293,13 @@ impl Session {
         if self.random.chance(if fresh { 20 } else { 6 }) {
             self.damage(&mut line);
         }
-        line
+        // Spoilt or damaged clauses may be over many trains: their n alone says how many.
+        let many = self.reach == Reach::SmallLines && clause_lines::trains(&line) > Some(self.most_trains);
+        if many {
+            self.junk()
+        } else {
+            line
+        }
     }
 
     /// The fields of a load, or of a line of another kind, mostly for this study.
@@ -309,6 +320,7 @@ impl Session {
         match self.random.below(38) {
             _ if load => load_fields(study),
             _ if in_steps && self.random.chance(30) => vec![(1, 6), (4, self.budget(study))],
+            _ if few_tries(study).is_some() && self.random.chance(50) => self.dearest_search(study),
             _ if self.records_matter(study) && self.random.chance(16) => self.record(study, 80),
             0..=4 => self.add(study),
             5..=9 => self.shift(study),
@@ -321,6 +333,12 @@ impl Session {
             29..=32 => self.record(study, 40),
             _ => vec![(1, 6), (4, self.budget(study))],
         }
+    }
+
+    /// A search of a dearest study with as many tries as it makes, or one less or more.
+    fn dearest_search(&mut self, study: &Study) -> Fields {
+        let most = few_tries(study).expect("a dearest study");
+        vec![(1, 6), (4, most + self.random.pick(&[-1, -1, 0, 0, 1]))]
     }
 
     /// The fields of clauses, unless the session is of small studies often over as many trains as 49 pairs need, or more.
@@ -348,6 +366,10 @@ impl Session {
         };
         let sizes: Vec<usize> =
             (0..n).map(|_| if full { 8 } else { 1 + random.below(self.most_choices) }).collect();
+        let dearest = dearest::study(&sizes).ok().filter(|study| few_tries(study).is_some());
+        if let Some(study) = dearest.filter(|_| random.chance(4)) {
+            return study;
+        }
         let scale = scale(random);
         let step = random.pick(&[1, 1, 1, 2, 5, 7, 1_000]);
         let top = random.pick(&[0, 1, 3, 10, 1_000, 1_000_000]).min(1_000_000 / step);
@@ -376,7 +398,7 @@ impl Session {
         let (train, choice) = match (random.below(8), recorded) {
             (0 | 1, _) => highest(study),
             (2, _) => hopeless(random, study).unwrap_or_else(|| any_choice(random, study)),
-            (3, Some(choices)) => {
+            (3 | 4, Some(choices)) => {
                 let train = random.below(choices.len());
                 (train, choices[train] as usize)
             }
@@ -584,7 +606,7 @@ impl Session {
                 .pick(&[
                     "00", "10", "81", "FF", "1", "01", "02", "03", "0400", "05", "06", "0700", "070707",
                     "0800", "080808", "09", "0901", "0A", "0A00", "0A0000", "0B", "0B00", "0C", "0C00", "0D",
-                    "0D01", "0E", "0E00", "0F",
+                    "0D01", "0E", "0E00", "0F", "0F00", "0F01", "0F0101",
                 ])
                 .into(),
         }

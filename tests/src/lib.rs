@@ -5,6 +5,8 @@ pub mod calls;
 pub mod claims;
 pub mod clause_lines;
 pub mod clauses;
+pub mod dearest;
+pub mod dearest_lines;
 pub mod generator;
 pub mod linear;
 pub mod lines;
@@ -40,8 +42,8 @@ use std::process::ExitCode;
 /// "reply buffer below 72 bytes" is number 17.
 pub const LEAST_BUFFER: usize = 72;
 
-/// The longest reply is the longest load line that a save may answer with. Of the others only a record of 23 or 24 trains is
-/// longer than the least buffer.
+/// The longest reply is the longest load line that a save may answer with. Of the others only a record of 23 or 24 trains, and
+/// the line of a dearest study, of 514 characters at most, are longer than the least buffer.
 pub const LONGEST_REPLY: usize = LONGEST_LINE;
 
 /// A service: line, lent block, lent reply buffer; gives the number of bytes written to its front.
@@ -56,8 +58,8 @@ pub fn answer(line: &[u8], block: &mut [i64], reply: &mut [u8]) -> usize {
     // "A declined line answers FF and the number as one byte."
     let bytes = respond(line, block).unwrap_or_else(|refusal| vec![0xFF, refusal as u8]);
     let digits = lines::digits(&bytes);
-    // Of a save: "where it doesn't fit, the answer is 17, judged after 5." Of a record "17 as for a save comes last". Neither
-    // has changed anything.
+    // Of a save: "where it doesn't fit, the answer is 17, judged after 5." Of a record "17 as for a save comes last", and of a
+    // dearest study "17 as for a save, last". None of them has changed anything.
     if digits.len() > reply.len() {
         return 0;
     }
@@ -68,7 +70,7 @@ pub fn answer(line: &[u8], block: &mut [i64], reply: &mut [u8]) -> usize {
 /// The reply's bytes. The block is written only where a line of kinds 01 to 04, 08, 09 or 0B is accepted.
 fn respond(line: &[u8], block: &mut [i64]) -> Result<Vec<u8>, Refusal> {
     // "Order: 17, 16, 2, 1, 3, 4. Then fields from left to right ... Then 10, 12 or 14." Change 7: "20 ..., after 5 and
-    // before 10." Change 10: "21 ..., after 5." Change 11: 22 and 23 "follow 5, 22 first".
+    // before 10." Change 10: "21 ..., after 5." Change 11: 22 and 23 "follow 5, 22 first". Change 13: "24 ..., after 5."
     let state = model::decode(block)?;
     let (kind, fields) = lines::open(line)?;
     let present = || state.ok_or(Refusal::Fresh);
@@ -102,6 +104,8 @@ fn respond(line: &[u8], block: &mut [i64]) -> Result<Vec<u8>, Refusal> {
         Kind::Screen => screen(&present()?, fields),
         Kind::Planner => planner(&present()?, fields),
         Kind::Record => record(&present()?, fields),
+        // "It answers with a load line." "Of the block only 16 is judged."
+        Kind::Dearest => Ok(lines::saved(&dearest::study(&lines::sizes(fields)?)?)),
     }
 }
 

@@ -35,6 +35,7 @@ pub enum Kind {
     Screen,
     Planner,
     Record,
+    Dearest,
 }
 
 /// The bytes behind the kind, read from the left.
@@ -66,6 +67,11 @@ impl Fields {
     fn judged(&mut self, width: usize, range: RangeInclusive<i64>, no: Refusal) -> Result<i64, Refusal> {
         let number = self.number(width)?;
         range.contains(&number).then_some(number).ok_or(no)
+    }
+
+    /// The sizes of n trains.
+    fn sizes(&mut self, n: usize) -> Result<Vec<usize>, Refusal> {
+        (0..n).map(|_| Ok(self.judged(1, SIZES, Refusal::Range)? as usize)).collect()
     }
 
     /// The costs of a load, `None` where an entry is forbidden.
@@ -144,6 +150,7 @@ pub fn open(line: &[u8]) -> Result<(Kind, Fields), Refusal> {
         12 => Kind::Screen,
         13 => Kind::Planner,
         14 => Kind::Record,
+        15 => Kind::Dearest,
         _ => return Err(Refusal::NoSuchKind),
     };
     Ok((kind, Fields { bytes, next: 1 }))
@@ -160,10 +167,7 @@ fn head(fields: &mut Fields) -> Result<(usize, i64), Refusal> {
 /// pair: i, j (1 each), costs (3 each), a outer, b inner." c0 becomes 0.
 pub fn load(mut fields: Fields) -> Result<Study, Refusal> {
     let (n, scale) = head(&mut fields)?;
-    let mut sizes = Vec::with_capacity(n);
-    for _ in 0..n {
-        sizes.push(fields.judged(1, SIZES, Refusal::Range)? as usize);
-    }
+    let sizes = fields.sizes(n)?;
     let mut trains = Vec::with_capacity(n);
     for &size in &sizes {
         trains.push(Costs::new(1, size, fields.costs(size)?, scale));
@@ -294,4 +298,12 @@ pub fn choices(mut fields: Fields, study: &Study) -> Result<Vec<i64>, Refusal> {
     let choices = fields.numbers(study.trains.len(), 1)?;
     fields.end()?;
     Ok(choices)
+}
+
+/// "Kind 0F: n and sizes." "6 applies."
+pub fn sizes(mut fields: Fields) -> Result<Vec<usize>, Refusal> {
+    let n = fields.judged(1, TRAINS, Refusal::Range)?;
+    let sizes = fields.sizes(n as usize)?;
+    fields.end()?;
+    Ok(sizes)
 }

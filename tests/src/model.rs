@@ -53,6 +53,8 @@ pub enum Refusal {
     NotHeld = 22,
     /// "Cost isn't the plan's total in H, bound above it, or a forbidden entry."
     Figures = 23,
+    /// "That sum exceeds 10,000,000, after 5."
+    Tries = 24,
 }
 
 /// The cost of a permitted entry: H in points, T in parts.

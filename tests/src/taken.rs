@@ -76,8 +76,13 @@ fn of_kind(kind: &[u8], text: &[u8]) -> Vec<u8> {
     [kind, text].concat()
 }
 
-/// The reply to a line of kinds 0C to 0E, or to a shift of nothing: the block, of any length, stays as it is.
-fn reply(service: Service, line: &[u8], block: &[i64], capacity: usize) -> Result<Vec<u8>, String> {
+/// The reply to a line that leaves the block, of any length, as it is.
+pub(crate) fn reply(
+    service: Service,
+    line: &[u8],
+    block: &[i64],
+    capacity: usize,
+) -> Result<Vec<u8>, String> {
     let call = Call { capacity, setting: Setting::Length(block.len()), line: line.to_vec() };
     let outcome = call.run(service, &mut block.to_vec());
     demand(outcome.block == block, "a line that leaves the block changed it")?;

@@ -184,7 +184,7 @@ fn fields_from_left_to_right() {
     // 2, 1 and 3 come before all fields; 4 is not judged.
     assert_eq!(last(&["090"]), "FF01");
     assert_eq!(last(&["09010001000g"]), "FF01");
-    assert_eq!(last(&["0F"]), "FF03");
+    assert_eq!(last(&["10"]), "FF03");
     assert_eq!(last(&["090100010000"]), ZERO);
     assert_eq!(last(&["09020001000101020F4240"]), ZERO);
 }

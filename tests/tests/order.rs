@@ -76,7 +76,7 @@ fn orders_that_are_refused() {
     for line in ["0B0000", "0B0101", "0B0002", "0B00FF", "0B0200", "0BFFFF"] {
         assert_eq!(last(&[J, line]), "FF15", "{line}");
     }
-    assert_eq!(last(&[J, "0F"]), "FF03");
+    assert_eq!(last(&[J, "10"]), "FF03");
     // One train.
     assert_eq!(
         replies(&["01010001010000000001", "010100010100000000", "0B00", "0B01"])[2..],

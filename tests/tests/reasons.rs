@@ -279,6 +279,6 @@ impl Watch {
 #[test]
 fn the_generator_reaches_every_reason() {
     let mut watch = Watch::default();
-    sessions(1_600, |call, given, outcome| watch.call(call, given, outcome));
+    sessions(2_000, |call, given, outcome| watch.call(call, given, outcome));
     watch.seen.each_over(5);
 }

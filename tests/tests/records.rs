@@ -100,7 +100,7 @@ fn records_that_are_not_written() {
             ("0e0001", "FF01"),
         ],
     );
-    assert_eq!(last(&[J, "0F"]), "FF03");
+    assert_eq!(last(&[J, "10"]), "FF03");
 }
 
 /// "Kind 0C reads one for screens: 8C, n and choices." Bound and cost may be any twelve bytes.

@@ -1,6 +1,8 @@
-//! The document's claims on sessions of small studies, saves and records on sessions of every size, and the generator's reach.
+//! The document's claims on sessions of small studies, saves, records and dearest studies on sessions of every size, and the
+//! generator's reach.
 
 use reference::claims::{check_session, Ceilings, Forbidden, Reasons, Tally};
+use reference::dearest::Dearest;
 use reference::generator::sessions;
 use reference::lines::{saved, MOVES};
 use reference::literals::Literals;
@@ -39,6 +41,7 @@ fn the_claims_hold_by_every_plan() {
     assert!(studies[0] > 2_000 && studies[1] > 600 && saved == studies[0] + studies[1], "{tally:?}");
     assert!(plans > 80 && counts > 4_000 && spent > 400, "{tally:?}");
     were_tested(&tally.taken);
+    were_searched(&tally.dearest);
     let Literals { lines, differing, paired, added_up, weightless, on_fresh, over_forbidden } = tally.clauses;
     assert!(lines > 300 && of_clauses == lines && differing > 180 && paired > 170, "{tally:?}");
     assert!(added_up > 160 && weightless > 140 && on_fresh > 50 && over_forbidden > 90, "{tally:?}");
@@ -71,6 +74,31 @@ fn were_tested(taken: &Taken) {
     assert!(shown.iter().all(|&count| count > 500) && tight.iter().all(|&count| count > 300), "{taken:?}");
     assert!(*lower > 40 && *higher > 15 && *barred > 150 && *not_held > 600, "{taken:?}");
     assert!(planners_refused.iter().all(|&count| count > 50) && *writes_refused > 150, "{taken:?}");
+}
+
+/// Each claim about dearest studies was put to the test.
+fn were_searched(dearest: &Dearest) {
+    let Dearest { lines, fresh, loaded, too_many, too_long, ended, spent, .. } = dearest;
+    assert!(*lines > 250 && *fresh > 8 && *loaded > 200, "{dearest:?}");
+    assert!(*too_many > 80 && *too_long > 80 && *ended > 800 && *spent > 300, "{dearest:?}");
+    let Dearest { studies, clauses, forbidden, rewritten, as_many, searches, all_tried, .. } = dearest;
+    assert!(*studies > 400 && *clauses > 20 && *forbidden > 70 && *rewritten > 200, "{dearest:?}");
+    assert!(*as_many > 100 && searches.iter().chain(all_tried).all(|&count| count > 50), "{dearest:?}");
+}
+
+/// What is said of dearest studies, and of the number of tries of every search, on blocks that no line makes too.
+#[test]
+fn dearest_studies_hold_on_every_block() {
+    let mut dearest = Dearest::default();
+    for seed in 0..200 {
+        if let Err(claim) = dearest.check_session(reference::answer, seed, 50) {
+            panic!("{claim}");
+        }
+    }
+    let Dearest { lines, fresh, loaded, too_many, too_long, ended, spent, searches, all_tried, .. } = dearest;
+    assert!(lines > 20 && fresh > 0 && loaded > 15 && too_many > 5 && too_long > 5, "{dearest:?}");
+    assert!(ended > 40 && spent > 15, "{dearest:?}");
+    assert!(searches.iter().chain(&all_tried).all(|&count| count > 5), "{dearest:?}");
 }
 
 /// What is said of records on blocks that no line makes too, in buffers as long as a record.
@@ -293,7 +321,7 @@ fn the_generator_reaches_every_round() {
 }
 
 /// The kinds, known and unknown, with their refusals.
-const REFUSALS: [(&str, &[u8]); 16] = [
+const REFUSALS: [(&str, &[u8]); 17] = [
     ("01", &[1, 5, 6, 7, 8, 16]),
     ("02", &[1, 4, 5, 7, 9, 10, 12, 16]),
     ("03", &[1, 4, 5, 11, 12, 16]),
@@ -308,6 +336,7 @@ const REFUSALS: [(&str, &[u8]); 16] = [
     ("0C", &[1, 4, 5, 16, 22]),
     ("0D", &[1, 4, 5, 16, 22, 23]),
     ("0E", &[1, 4, 5, 16, 22, 23]),
+    ("0F", &[1, 5, 6, 16, 24]),
     ("00", &[2, 3]),
     ("10", &[3]),
 ];
@@ -328,10 +357,10 @@ fn the_generator_reaches_every_answer() {
     };
     for (kind, numbers) in REFUSALS {
         numbers.iter().for_each(|number| often(kind, &format!("FF{number:02X}")));
-        // "Kind 07 ... answers with a load line."
+        // "Kind 07 ... answers with a load line", and so does kind 0F.
         let shown = match kind {
             "00" | "10" => continue,
-            "07" => "01".into(),
+            "07" | "0F" => "01".into(),
             _ => kind.replacen('0', "8", 1),
         };
         often(kind, &shown);

@@ -91,7 +91,7 @@ impl Both {
 fn searches_stop_at_the_bound() {
     let mut seen = Seen::default();
     let mut after = String::new();
-    sessions(1_000, |call, given, outcome| {
+    sessions(1_600, |call, given, outcome| {
         if matches!(call.setting, Setting::Edited(_)) {
             after.clear();
         }

@@ -27,3 +27,4 @@ pub mod Order
 pub mod Records
 pub mod PlanCosts
 pub mod Rooms
+pub mod Dearest

@@ -1,5 +1,5 @@
 -- Lines that are read, and the number under which each is declined, 0 where it is accepted: document 01's examples of 'What is declined' that the reader judges, 11 with the limits of document 02, change 3; lines that only a later rule declines, marked cases 11 and 12; FFFFFF in a
--- load, FFFFFE, FFFFFF in an add (change 5); lines of clauses (change 7); train, choice and limit (change 8); orders (change 10); records (change 11).
+-- load, FFFFFE, FFFFFF in an add (change 5); lines of clauses (change 7); train, choice and limit (change 8); orders (change 10); records (change 11); sizes (change 13).
 use mathlib.Core.Bool.{Bool, true, ◌&&◌}
 use mathlib.Core.List.{List, [], ◌∷◌, ◌++◌}
 use Prim.Native.Nat.{ℕ}
@@ -43,7 +43,7 @@ table =
     ∷ row "ff" fresh 1
     ∷ long "" 19835 fresh 2
     ∷ row "FF" fresh 3
-    ∷ row "0F" j 3
+    ∷ row "40" j 3
     ∷ row "10" j 3
     ∷ row "07" fresh 4
     ∷ row "0700" fresh 4
@@ -142,6 +142,16 @@ table =
     ∷ row "0E0002" j 22
     ∷ row "0E0200" j 22
     ∷ row "0E0100" j 0
+    ∷ row "0F" fresh 5
+    ∷ row "0F01" fresh 5
+    ∷ row "0F02020200" fresh 5
+    ∷ row "0F00" fresh 6
+    ∷ row "0F19" j 6
+    ∷ row "0F0100" j 6
+    ∷ row "0F0109" j 6
+    ∷ row "0F020202" fresh 0
+    ∷ row "0F0808080808080808" j 5
+    ∷ row "0F080808080808080808" j 0
     ∷ []
 
 pub table_right : T (every table)

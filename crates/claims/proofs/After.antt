@@ -1,5 +1,5 @@
--- After any list of calls from the fresh block the block is fresh still, or it and the ledger keep together: before the first accepted load nothing is accepted that needs a study, and each call after it
--- keeps them together.
+-- After any list of calls from the fresh block the block is fresh still, or it and the ledger keep together: before the first accepted load nothing is accepted that needs a study, so that what is accepted
+-- loads or leaves the block fresh, and each call after it keeps them together.
 use Rattle.std.specs.Prelude.{Ok, Err}
 use mathlib.Core.Path.{◌≡◌, refl, sym, subst}
 use mathlib.Core.Bool.{Bool, true, false, cond, ◌&&◌}
@@ -9,30 +9,39 @@ use Prim.Native.Nat.{ℕ, ◌≤◌}
 use lib.IntN.{ℤ}
 use lib.ListN.{length}
 use Rattle.theory.proofs.Range.{not_both}
+use Rattle.refusals.specs.declared.Refusal.TheVariants.{Tries}
 use Rattle.refusals.specs.Verdicts.{Verdict, Fine}
 use Rattle.tables.specs.WellFormed.{well_formed, fresh_block}
 use Rattle.tables.proofs.Study.{study_well_formed, fresh_is_fresh, fresh_well_formed}
+use Rattle.dearest.specs.Dearest.{dearest}
+use Rattle.lines.specs.declared.kind.Kind.{Kind}
 use Rattle.lines.specs.declared.kind.Kind.TheVariants as kind
 use Rattle.lines.specs.declared.request.Request.{Request}
-use Rattle.lines.specs.declared.request.Request.TheVariants.{Load, Clauses}
+use Rattle.lines.specs.declared.request.Request.TheVariants.{Load, Clauses, Dearest}
 use Rattle.lines.specs.Kinds.{new_kind, needs_study, request_kind}
 use Rattle.lines.specs.Layout.{kind_of}
+use Rattle.lines.specs.Text.{load_digits}
 use Rattle.kinds.specs.Clauses.{clauses_verdict, clauses_request}
+use Rattle.kinds.specs.Dearest.{dearest_verdict, dearest_request}
+use Rattle.decoding.proofs.Written.{load_kind}
 use Rattle.reader.proofs.LineAccepted.{Makes, line_makes}
 use Rattle.reader.proofs.LineKind.{line_known}
 use Rattle.replies.specs.Replies.{longest_fixed, refusal_reply}
-use Rattle.replies.specs.Shown.{accepted}
+use Rattle.replies.specs.Shown.{kind_shown, accepted}
 use Rattle.replies.proofs.Accepted.{empty_refused, refusal_refused}
 use Rattle.requests.specs.Answer.{Answer, answered, requested, line_answer}
 use Rattle.requests.proofs.LineCases.{line_cases}
+use Rattle.requests.proofs.Dearest.{dearest_cases}
 use Rattle.service.specs.Answer.{answer}
 use Rattle.service.specs.Calls.{Call, Exchange, exchange, last_block, blocks, exchanges}
 use Rattle.service.proofs.AnswerCases.{fixed_fit, answer_cases}
 use Rattle.service.proofs.Lists.{next_answer, exchanges_more}
-use Rattle.claims.specs.Ledger.{Ledger, by_kind, loads, fed, ledger_of, empty_ledger, ledger_after, has_load}
-use Rattle.claims.specs.Claims.{AtCall, EachCall}
+use Rattle.claims.specs.Ledger.{Ledger, by_kind, changed, loads, fed, ledger_of, empty_ledger, ledger_after, has_load}
+use Rattle.claims.specs.Claims.{sizes_of, Claim, shown_kind, AtCall, EachCall}
+use Rattle.claims.proofs.ByKind.{by_kind_lem, kind_accepted}
 use Rattle.claims.proofs.Keeps.{Keeps}
-use Rattle.claims.proofs.Steps.{fed_refused, Good, line_allowed, declined-call, empty_call, good_load, clauses_answer, outcome_of, good_clauses, clauses_allowed, good_line, good_call}
+use Rattle.claims.proofs.DearestClaims.{dearest_claim}
+use Rattle.claims.proofs.Steps.{fed_refused, Good, accepted_call, tries_allowed, line_allowed, declined-call, empty_call, good_load, clauses_answer, outcome_of, good_clauses, clauses_allowed, good_line, good_call}
 
 -- ---- fresh, or kept together
 
@@ -64,6 +73,12 @@ module _ (g : Ledger) (l : List ℕ) where
   called_quiet : (reply : List ℕ) → accepted reply ≡ false → AtCall g fresh_block (exchange l reply) → Called g fresh_block l (answered fresh_block reply)
   called_quiet reply e c = called_still reply (rw e) (rw (fed_refused g l reply e) c)
 
+  -- one to an accepted line of a kind that loads nothing
+  called_answered : (k : Kind) → new_kind (kind_of l) ≡ Ok k → loads k ≡ false → (reply : List ℕ) → kind_shown reply ≡ shown_kind k → Claim k (changed k l g) fresh_block (exchange l reply)
+      → Called g fresh_block l (answered fresh_block reply)
+  called_answered k known no_load reply shown claim =
+      called_still reply (rw (by_kind_lem loads false l known, no_load, kind_accepted k reply shown) refl) (accepted_call g fresh_block l k known reply shown claim)
+
   -- on a fresh block clauses load, or are declined
   new_clauses : new_kind (kind_of l) ≡ Ok kind.Clauses → clauses_verdict l ≡ Fine → Called g fresh_block l (requested (clauses_request l) l fresh_block)
   unfolding requested
@@ -73,14 +88,23 @@ module _ (g : Ledger) (l : List ℕ) where
       go (Ok _) f = called_good (good_clauses g l fresh_block e v f)
       go (Err r) f = called_quiet (refusal_reply r) (refusal_refused r) (declined-call g fresh_block l r (clauses_allowed g l r e f))
 
+  -- the dearest study is given there, or declined, and leaves the block fresh
+  new_dearest : new_kind (kind_of l) ≡ Ok kind.Dearest → dearest_verdict l ≡ Fine → Called g fresh_block l (requested (dearest_request l) l fresh_block)
+  unfolding requested
+  new_dearest e v =
+      dearest_cases (sizes_of l) fresh_block (Called g fresh_block l)
+      (λ w. called_answered kind.Dearest e refl (load_digits (dearest (sizes_of l))) (load_kind (dearest (sizes_of l))) (dearest_claim l v w))
+      (λ w. called_quiet (refusal_reply Tries) (refusal_refused Tries) (declined-call g fresh_block l Tries (tries_allowed g l)))
+
   -- what needs a study is not asked on a fresh block
   not_on_fresh : (q : Request) → Makes l fresh_block q → needs_study (request_kind q) ≡ true → ⊥
   not_on_fresh q m n = not_both fresh_is_fresh (rw n at m.2)
 
-  -- so only what needs none is: a load
+  -- so only what needs none is
   new_request : (q : Request) → Makes l fresh_block q → new_kind (kind_of l) ≡ Ok (request_kind q) → Called g fresh_block l (requested q l fresh_block)
   new_request (Load q) m e = called_good (subst (λ (s : Request). Good g fresh_block l (requested s l fresh_block)) (sym m.0) (good_load g l fresh_block e m.1))
   new_request (Clauses q) m e = subst (λ (s : Request). Called g fresh_block l (requested s l fresh_block)) (sym m.0) (new_clauses e m.1)
+  new_request (Dearest q) m e = subst (λ (s : Request). Called g fresh_block l (requested s l fresh_block)) (sym m.0) (new_dearest e m.1)
   new_request q m e = absurd (not_on_fresh q m refl)
 
   line_new : (room : ℕ) → longest_fixed ≤ room → Called g fresh_block l (line_answer l fresh_block room)

@@ -8,7 +8,7 @@ use Prim.Native.Nat.{ℕ, ◌<◌}
 use native.Mathlib.Omega.{arith}
 use lib.IntN.{ℤ}
 use Rattle.lines.specs.declared.kind.Kind.{Kind}
-use Rattle.lines.specs.declared.kind.Kind.TheVariants.{Save}
+use Rattle.lines.specs.declared.kind.Kind.TheVariants.{Save, Dearest}
 use Rattle.lines.specs.Kinds.{kind_number, new_kind}
 use Rattle.lines.specs.Layout.{kind_of}
 use Rattle.lines.proofs.KindNumbers.{number_kind, number_low}
@@ -28,6 +28,7 @@ by_kind_lem f other l known = rw known
 -- a kind is answered under its own byte, or under one that is no reply's own: that of a line
 shown_own : (k : Kind) → (shown_kind k ≡ reply_kind k) ⊎ (shown_kind k < reply_byte 0)
 shown_own Save = inr (omega arith)
+shown_own Dearest = inr (omega arith)
 shown_own k = inl refl
 
 -- which is not FF
@@ -53,12 +54,6 @@ same_reply j k own e = go (shown_own j)
         cc
     go (inr low) = absurd (omega (arith, own, e))
 
--- nor is any, while a save alone is answered under a line's
-same_shown : (j k : Kind) → shown_kind j ≡ shown_kind k → j ≡ k
-same_shown Save Save e = refl
-same_shown j Save e = sym (same_reply Save j refl (sym e))
-same_shown j k e = same_reply j k refl e
-
 -- ---- what is claimed
 
 module _ {g : Ledger} {b : List ℤ} {e : Exchange} (a : AtLine g b e) where
@@ -72,10 +67,6 @@ module _ {g : Ledger} {b : List ℤ} {e : Exchange} (a : AtLine g b e) where
   pub line_claim : (k : Kind) → new_kind (kind_of e.line) ≡ Ok k → Claim k g b e
   line_claim k known = subst (λ (j : Kind). Claim j g b e) (same_kind k known) a.claim
 
-  -- what is claimed of a reply that shows kind k, where k is answered under its own byte: so for kinds to come
+  -- what is claimed of a reply that shows kind k, where k is answered under its own byte; under a line's byte more kinds than one may be answered, and the line decides
   pub own_claim : (k : Kind) → shown_kind k ≡ reply_kind k → kind_shown e.reply ≡ shown_kind k → Claim k g b e
   own_claim k own shown = subst (λ (j : Kind). Claim j g b e) (same_reply a.kind k own (sym a.answered ∙ shown)) a.claim
-
-  -- of a reply that shows any kind of today's
-  pub shown_claim : (k : Kind) → kind_shown e.reply ≡ shown_kind k → Claim k g b e
-  shown_claim k shown = subst (λ (j : Kind). Claim j g b e) (same_shown a.kind k (sym a.answered ∙ shown)) a.claim

@@ -10,6 +10,7 @@ pub mod OnePlan
 pub mod SaveClaims
 pub mod RoundClaims
 pub mod RecordClaims
+pub mod DearestClaims
 pub mod Steps
 pub mod After
 pub mod Demand
@@ -23,9 +24,11 @@ pub mod BoundSteps
 pub mod Orders
 pub mod Records
 pub mod Rooms
+pub mod Dearest
 pub mod ByComputing
 pub mod Uses
 pub mod UsesForbidden
 pub mod UsesSteps
 pub mod UsesRecords
 pub mod UsesRooms
+pub mod UsesDearest

@@ -3,18 +3,17 @@
 -- is written is above it; so every test that the record passed it passes again.
 use Rattle.std.specs.Prelude.{Ok, Err}
 use mathlib.Core.Path.{◌≡◌, refl, sym, ap, subst, ◌∙◌}
-use mathlib.Core.Bool.{true, false, ◌&&◌}
+use mathlib.Core.Bool.{true}
 use mathlib.Core.List.{List, []}
 use Prim.Native.Nat.{ℕ, ◌<◌, ◌≤◌, ◌^◌}
 use native.Mathlib.Omega.{arith}
 use lib.IntN.{ℤ}
 use lib.ListN.{length, take}
-use borrow.Author.Tests.{le-ltb}
 use Rattle.theory.specs.Lists.{nth}
 use Rattle.theory.proofs.Lists.{list_length}
 use Rattle.refusals.specs.Verdicts.{Verdict, Fine}
 use Rattle.tables.specs.Block.{trains}
-use Rattle.tables.specs.WellFormed.{is_fresh, Study}
+use Rattle.tables.specs.WellFormed.{Study}
 use Rattle.tables.specs.Plans.{shape_of, choices_held, loaded_total}
 use Rattle.tables.proofs.Held.{held_trains, held_below, held_cong}
 use Rattle.tables.proofs.Study.{study_well_formed, study_not_fresh, trains_range, size_range}
@@ -23,7 +22,7 @@ use Rattle.records.specs.Records.{record_right}
 use Rattle.records.proofs.Right.{right_parts, right_plan}
 use Rattle.frames.specs.Digits.{bytes}
 use Rattle.frames.specs.Fields.{field_digits}
-use Rattle.frames.specs.Frames.{max_characters, framed, new_frame, Framed}
+use Rattle.frames.specs.Frames.{framed, new_frame}
 use Rattle.lines.specs.declared.kind.Kind.{Kind}
 use Rattle.lines.specs.declared.kind.Kind.TheVariants.{Screen, Planner, Record}
 use Rattle.lines.specs.declared.request.Request.{Request}
@@ -37,10 +36,10 @@ use Rattle.lines.proofs.KindNumbers.{number_kind, number_low}
 use Rattle.lines.proofs.Records.{first_byte, behind_first, trains_recorded, choice_recorded, choices_recorded, bound_recorded, cost_recorded, record_text_bytes, record_framed, record_front, record_again}
 use Rattle.kinds.specs.Records.{record_verdict, screen_request, planner_request}
 use Rattle.kinds.specs.Lines.{kind_verdict, kind_request, study_line}
-use Rattle.kinds.proofs.Front.{same_field}
+use Rattle.frames.proofs.Front.{same_field}
 use Rattle.kinds.proofs.RecordsAccepted.{record_fine, record_intro, record_trains_front, record_verdict_front, screen_request_front, record_choices_front}
 use Rattle.reader.specs.Reading.{kind_line, framed_line, line_of}
-use Rattle.reader.proofs.LineAccepted.{line_makes}
+use Rattle.reader.proofs.LineAccepted.{line_makes, line_asks}
 use Rattle.reader.proofs.LineKind.{line_known}
 use Rattle.replies.specs.Replies.{reply_kind, screen_reply, record_reply}
 use Rattle.replies.specs.Shown.{accepted}
@@ -195,12 +194,6 @@ same_choices r b c buffer other e f =
     rw (s.is, planner_shown r c other f) (shown_alike s.choices s.bound s.cost s.few ∙ ap up_to_bound s.again)
 
 -- ---- 3
-
--- a frame of a kind whose fields are judged fine asks what they say
-line_asks : (k : Kind) (l : List ℕ) (b : List ℤ) (n : ℕ) → Framed l n → kind_of l ≡ kind_number k → needs_study k && is_fresh b ≡ false → kind_verdict k l b ≡ Fine
-    → line_of l b ≡ Asked (kind_request k l b)
-unfolding line_of kind_line study_line
-line_asks k l b n f known loaded fine = rw (le-ltb max_characters (length l) f.short, f.digits, known, number_kind k, loaded, fine)
 
 -- a record of a plan of the block, with figures that are right
 module _ {b : List ℤ} (s : Study b) (choices : List ℕ) (bound cost : ℕ) (held : choices_held (shape_of b) (length choices) (nth choices) ≡ true)

@@ -60,7 +60,7 @@ saves_as {b} s e =
 -- ---- straight after an accepted load
 
 -- what a line that asks for a load is answered
-load_answer : (l : List ℕ) (b : List ℤ) (buffer : List ℕ) → min_buffer ≤ length buffer → well_formed b ≡ true → line_of l b ≡ Asked (load_request l)
+pub load_answer : (l : List ℕ) (b : List ℤ) (buffer : List ℕ) → min_buffer ≤ length buffer → well_formed b ≡ true → line_of l b ≡ Asked (load_request l)
     → answer l b buffer ≡ answered (loaded_block (numbers_of l)) (bound_reply kind.Load (loaded_block (numbers_of l)))
 unfolding requested
 load_answer l b d h right e = rw (answered_line l b d h right, fixed_line l b (length d) (fixed_fit d h) right (load_request l) refl e)

@@ -15,7 +15,7 @@ use Rattle.theory.proofs.Lists.{list_length, list_nth}
 use Rattle.theory.proofs.Order.{once_cong}
 use Rattle.theory.proofs.Range.{not_both}
 use Rattle.refusals.specs.declared.Refusal.{Refusal}
-use Rattle.refusals.specs.declared.Refusal.TheVariants.{CostAbove, PartsOutside, Sums, ForbiddenWeight, PairsAbove, Figures}
+use Rattle.refusals.specs.declared.Refusal.TheVariants.{CostAbove, PartsOutside, Sums, ForbiddenWeight, PairsAbove, Figures, Tries}
 use Rattle.refusals.specs.Verdicts.{Verdict, Fine, Declined, settled, unless}
 use Rattle.refusals.specs.Refusals.{refusal_number}
 use Rattle.tables.specs.Block.{max_trains, max_pairs, max_cost, max_parts, trains, scale, size, first, second, loaded_choice, held_choice}
@@ -46,27 +46,31 @@ use Rattle.certificates.proofs.Ceilings.{certify_cases, certify_ceiling, certify
 use Rattle.reasons.specs.Reasons.{reason_at}
 use Rattle.reasons.proofs.Costs.{shown_low}
 use Rattle.records.specs.Records.{record_right}
+use Rattle.dearest.specs.Dearest.{dearest}
 use Rattle.frames.specs.Digits.{bytes}
 use Rattle.frames.specs.Frames.{Framed}
 use Rattle.frames.specs.Runs.{run_of, signed_run_of}
 use Rattle.lines.specs.declared.kind.Kind.{Kind}
 use Rattle.lines.specs.declared.kind.Kind.TheVariants as kind
 use Rattle.lines.specs.declared.request.Request.{Request}
-use Rattle.lines.specs.declared.request.Request.TheVariants.{Load, Add, Shift, Tighten, Certify, Search, Save, Round, Clauses, Explain, Order, Screen, Planner, Record}
+use Rattle.lines.specs.declared.request.Request.TheVariants.{Load, Add, Shift, Tighten, Certify, Search, Save, Round, Clauses, Explain, Order, Screen, Planner, Record, Dearest}
 use Rattle.lines.specs.declared.request.Line.TheVariants.{Refused}
 use Rattle.lines.specs.Kinds.{new_kind, request_kind}
 use Rattle.lines.specs.Layout.{kind_of, move_width, weight_width, add_train, add_choice, add_points, certify_full_weight, search_budget, weight_field, lift_field, move_field, load_trains, load_scale, explain_train, explain_choice, explain_limit, count_width, order_field, order_train, figure_width, record_trains, record_choice_field, record_bound, record_cost, plan_choice_field, plan_choice}
+use Rattle.lines.specs.Text.{load_digits}
 use Rattle.lines.specs.Verdicts.{field_run}
 use Rattle.kinds.specs.Load.{load_verdict, load_request}
 use Rattle.kinds.specs.Clauses.{clauses_verdict, clauses_request}
 use Rattle.kinds.specs.Lines.{add_request, shift_request, certify_request, search_request, explain_request, order_request}
 use Rattle.kinds.specs.Records.{screen_request, planner_request, plan_request}
+use Rattle.kinds.specs.Dearest.{dearest_verdict, dearest_request}
 use Rattle.kinds.proofs.Accepted.{FineExplain, FineOrder, add_fine, certify_fine, explain_fine, order_fine}
 use Rattle.kinds.proofs.RecordsAccepted.{FineRecord, FinePlan, record_fine, plan_fine}
 use Rattle.decoding.specs.Numbers.{numbers_of}
 use Rattle.decoding.specs.Clauses.{clauses_of, clause_numbers_of}
 use Rattle.decoding.proofs.LoadRange.{load_in_range}
 use Rattle.decoding.proofs.ClausesRange.{clauses_in_limits}
+use Rattle.decoding.proofs.Written.{load_kind}
 use Rattle.reader.specs.Reading.{line_of}
 use Rattle.reader.proofs.LineAccepted.{Makes, line_makes, add_there, explain_there}
 use Rattle.reader.proofs.LineKind.{line_known}
@@ -79,13 +83,14 @@ use Rattle.replies.proofs.ReadBack.{bound_kind, certify_kind, search_kind, reaso
 use Rattle.replies.proofs.Accepted.{empty_refused, refusal_refused}
 use Rattle.requests.specs.Answer.{Answer, answered, declined, operated, certified, saved, recorded, choices_in, requested, line_answer}
 use Rattle.requests.proofs.Records.{recorded_cases}
+use Rattle.requests.proofs.Dearest.{dearest_cases}
 use Rattle.requests.proofs.LineCases.{line_cases}
 use Rattle.saving.proofs.Together.{save_kind}
 use Rattle.service.specs.Answer.{answer}
 use Rattle.service.specs.Calls.{exchange}
 use Rattle.service.proofs.AnswerCases.{fixed_fit, answer_cases}
 use Rattle.claims.specs.Ledger.{Ledger, by_kind, changed, fed}
-use Rattle.claims.specs.Claims.{outside, figures, malformed, BoundClaim, Claim, shown_kind, never_outside, writes_record, AtCall}
+use Rattle.claims.specs.Claims.{outside, figures, malformed, sizes_of, BoundClaim, Claim, shown_kind, never_outside, writes_record, AtCall}
 use Rattle.claims.proofs.ByKind.{by_kind_lem, kind_accepted}
 use Rattle.claims.proofs.Found.{ceiling_holds, moved_holds, known_plan, known_low, ended_least, reason_low, partner_named}
 use Rattle.claims.proofs.Keeps.{Keeps, open_in, bound_low, total_most, entry_most, scaled_most, held-total_most}
@@ -94,6 +99,7 @@ use Rattle.claims.proofs.Lines.{at_refused, at_accepted, refused_as, empty_shows
 use Rattle.claims.proofs.OnePlan.{one_plan_holds}
 use Rattle.claims.proofs.SaveClaims.{save_claim}
 use Rattle.claims.proofs.RecordClaims.{screen_right, planner_right, written_right, unwritten_forbidden}
+use Rattle.claims.proofs.DearestClaims.{dearest_claim}
 use Rattle.claims.proofs.RoundClaims.{round_done, round_keeps, round_settled}
 
 -- ---- what the ledger makes of a line
@@ -119,10 +125,13 @@ good_by : (g h : Ledger) (b : List ℤ) (l : List ℕ) (a : Answer) → fed (exc
 good_by g h b l a e k c = record { keeps = rw e k; call = rw e c }
 
 -- an accepted line of kind k, which is answered under k: by the ledger as k changes it
-good_kind : (g : Ledger) (b : List ℤ) (l : List ℕ) (k : Kind) (a : Answer) → new_kind (kind_of l) ≡ Ok k → kind_shown a.reply ≡ shown_kind k → Keeps (changed k l g) a.block
-    → Claim k (changed k l g) b (exchange l a.reply) → Good g b l a
-good_kind g b l k a known shown keeps claim =
-    good_by g (changed k l g) b l a (fed_kind g l a.reply k (kind_accepted k a.reply shown) known) keeps (at_accepted (changed k l g) b l a.reply k known shown claim)
+module _ (g : Ledger) (b : List ℤ) (l : List ℕ) (k : Kind) (known : new_kind (kind_of l) ≡ Ok k) where
+  -- on any block, also on one that the ledger does not keep
+  pub accepted_call : (reply : List ℕ) → kind_shown reply ≡ shown_kind k → Claim k (changed k l g) b (exchange l reply) → AtCall (fed (exchange l reply) g) b (exchange l reply)
+  accepted_call reply shown claim = rw (fed_kind g l reply k (kind_accepted k reply shown) known) (at_accepted (changed k l g) b l reply k known shown claim)
+
+  good_kind : (a : Answer) → kind_shown a.reply ≡ shown_kind k → Keeps (changed k l g) a.block → Claim k (changed k l g) b (exchange l a.reply) → Good g b l a
+  good_kind a shown keeps claim = record { keeps = rw (fed_kind g l a.reply k (kind_accepted k a.reply shown) known) keeps; call = accepted_call a.reply shown claim }
 
 -- ---- declined calls
 
@@ -136,6 +145,10 @@ pub record Allowed (g : Ledger) (l : List ℕ) (r : Refusal) : Type 0 where
 -- one under another number than these
 allowed : (g : Ledger) (l : List ℕ) (r : Refusal) → (refusal_number r ≡ outside → ⊥) → (refusal_number r ≡ figures → ⊥) → (refusal_number r ≡ malformed → ⊥) → Allowed g l r
 allowed g l r o f m = record { not_outside = λ _ _. o; unwritten = λ _ q. absurd (f q); not_malformed = m }
+
+-- 24
+pub tries_allowed : (g : Ledger) (l : List ℕ) → Allowed g l Tries
+tries_allowed g l = allowed g l Tries (λ q. omega arith) (λ q. omega arith) (λ q. omega arith)
 
 -- what the reader declines
 pub line_allowed : (g : Ledger) (l : List ℕ) (b : List ℤ) (r : Refusal) → line_of l b ≡ Refused r → Allowed g l r
@@ -167,7 +180,7 @@ bound_fits s = omega (arith, bound_room s)
 good_bound : (g : Ledger) (old : List ℤ) (l : List ℕ) (k : Kind) (b : List ℤ) → new_kind (kind_of l) ≡ Ok k → reply_kind k ≡ shown_kind k
     → (BoundClaim (changed k l g) (exchange l (bound_reply k b)) → Claim k (changed k l g) old (exchange l (bound_reply k b))) → Keeps (changed k l g) b → Good g old l (answered b (bound_reply k b))
 good_bound g old l k b known own claim keeps =
-    good_kind g old l k (answered b (bound_reply k b)) known (bound_kind k b ∙ own) keeps (claim (bound_claim (changed k l g) l k b (bound_fits keeps.study) (bound_low keeps)))
+    good_kind g old l k known (answered b (bound_reply k b)) (bound_kind k b ∙ own) keeps (claim (bound_claim (changed k l g) l k b (bound_fits keeps.study) (bound_low keeps)))
 
 -- ---- load, on any block
 
@@ -324,7 +337,7 @@ module _ {g : Ledger} {b : List ℤ} (k : Keeps g b) (l : List ℕ) where
       accepted_lem : (c : Ceiling) → certificate b (weights_of b (certify_full_weight l) weights) ≡ Ok c → Good g b l (certified (certify_full_weight l) (Ok c) b)
       accepted_lem c h =
           let w = certify_ceiling b (weights_of b (certify_full_weight l) weights) h in
-          good_kind g b l kind.Certify (answered b (certify_reply (certify_full_weight l) c)) e (certify_kind (certify_full_weight l) c) k
+          good_kind g b l kind.Certify e (answered b (certify_reply (certify_full_weight l) c)) (certify_kind (certify_full_weight l) c) k
           (ceiling_claim g b l (certify_full_weight l) c low.0 (omega (arith, low.1)) (omega (arith, certify_fits (certify_full_weight l) weights k.study low.1 h)) (rw w.shown w.reached)
           (one_plan_holds k l h) (ceiling_holds k (weights_of b (certify_full_weight l) weights) h) (moved_holds k (weights_of b (certify_full_weight l) weights) h))
 
@@ -343,11 +356,11 @@ module _ {g : Ledger} {b : List ℤ} (k : Keeps g b) (l : List ℕ) where
   unfolding requested
   good_search e =
       let f = search_answer b (search_budget l) in
-      good_kind g b l kind.Search (answered b (search_reply (trains b) f)) e (search_kind (trains b) f) k (search_claim g l (trains b) f (found_right (search_budget l)))
+      good_kind g b l kind.Search e (answered b (search_reply (trains b) f)) (search_kind (trains b) f) k (search_claim g l (trains b) f (found_right (search_budget l)))
 
   good_save : new_kind (kind_of l) ≡ Ok kind.Save → Good g b l (requested Save l b)
   unfolding requested
-  good_save e = good_kind g b l kind.Save (saved b) e (save_kind k.study) k (save_claim k l)
+  good_save e = good_kind g b l kind.Save e (saved b) (save_kind k.study) k (save_claim k l)
 
   good_explain : new_kind (kind_of l) ≡ Ok kind.Explain → FineExplain l b → Good g b l (requested (explain_request l) l b)
   unfolding requested
@@ -356,7 +369,7 @@ module _ {g : Ledger} {b : List ℤ} (k : Keeps g b) (l : List ℕ) where
       let a = explain_choice l in
       let r = reason_at b i a (explain_limit l) in
       let there = explain_there k.study f in
-      good_kind g b l kind.Explain (answered b (reason_reply r)) e (reason_kind r) k
+      good_kind g b l kind.Explain e (answered b (reason_reply r)) (reason_kind r) k
       (explain_claim g l r (shown_low k.study i a (explain_limit l)) (reason_low k i a (explain_limit l) there.0) (partner_named k i a (explain_limit l)))
 
   good_order : new_kind (kind_of l) ≡ Ok kind.Order → FineOrder l (trains b) → Good g b l (requested (order_request (trains b)) l b)
@@ -368,7 +381,7 @@ module _ {g : Ledger} {b : List ℤ} (k : Keeps g b) (l : List ℕ) where
       let whole : length order ≡ n = list_length (order_train l) n in
       let once = once_cong n (nth order) (order_train l) same ∙ f.once in
       let t = k.same.shape_same.trains_same in
-      good_kind g b l kind.Order (answered (ordered_block order b) (order_reply order)) e (order_kind order) (order_keeps order k whole once)
+      good_kind g b l kind.Order e (answered (ordered_block order b) (order_reply order)) (order_kind order) (order_keeps order k whole once)
       (order_claim g l order (whole ∙ t) (omega (arith, t, trains_range k.study)) (rw (← t) once) (λ d h. same d (omega (arith, t))))
 
   good_clauses_line : new_kind (kind_of l) ≡ Ok kind.Clauses → clauses_verdict l ≡ Fine → Good g b l (requested (clauses_request l) l b)
@@ -385,7 +398,7 @@ module _ {g : Ledger} {b : List ℤ} (k : Keeps g b) (l : List ℕ) where
   unfolding requested
   good_screen e f =
       let choices = choices_in l (field_run record_choice_field.at (record_trains l)) in
-      good_kind g b l kind.Screen (answered b (screen_reply choices)) e (screen_kind choices) k (screen_right k f)
+      good_kind g b l kind.Screen e (answered b (screen_reply choices)) (screen_kind choices) k (screen_right k f)
 
   -- a record that is right is shown, another declined with 23
   good_recorded : (kd : Kind) (choices : List ℕ) (bound cost : ℕ) → new_kind (kind_of l) ≡ Ok kd → reply_kind kd ≡ shown_kind kd → Keeps (changed kd l g) b
@@ -394,7 +407,7 @@ module _ {g : Ledger} {b : List ℤ} (k : Keeps g b) (l : List ℕ) where
       → Good g b l (recorded kd choices bound cost b)
   good_recorded kd choices bound cost e own keeps claim unwritten =
       recorded_cases kd choices bound cost b (Good g b l)
-      (λ r. good_kind g b l kd (answered b (record_reply kd choices bound cost)) e (record_kind kd choices bound cost ∙ own) keeps (claim r))
+      (λ r. good_kind g b l kd e (answered b (record_reply kd choices bound cost)) (record_kind kd choices bound cost ∙ own) keeps (claim r))
       (λ r. good_declined k l Figures (record { not_outside = λ w o q. omega arith; unwritten = λ w q. unwritten r w; not_malformed = λ q. omega arith }))
 
   good_planner : new_kind (kind_of l) ≡ Ok kind.Planner → Framed l (bytes l) → FineRecord l b → Good g b l (requested (planner_request l) l b)
@@ -408,6 +421,16 @@ module _ {g : Ledger} {b : List ℤ} (k : Keeps g b) (l : List ℕ) where
   good_record e f =
       let choices = choices_in l (field_run plan_choice_field.at (trains b)) in
       good_recorded kind.Record choices (bound_of b) (loaded_total b (nth choices)) e refl k (written_right k f) (λ r u. unwritten_forbidden k f r)
+
+  -- ---- the dearest study changes nothing, given or declined
+
+  good_dearest : new_kind (kind_of l) ≡ Ok kind.Dearest → dearest_verdict l ≡ Fine → Good g b l (requested (dearest_request l) l b)
+  unfolding requested
+  good_dearest e v =
+      let text = load_digits (dearest (sizes_of l)) in
+      dearest_cases (sizes_of l) b (Good g b l)
+      (λ w. good_kind g b l kind.Dearest e (answered b text) (load_kind (dearest (sizes_of l))) k (dearest_claim l v w))
+      (λ w. good_declined k l Tries (tries_allowed g l))
 
   -- ---- every request
 
@@ -431,6 +454,7 @@ module _ {g : Ledger} {b : List ℤ} (k : Keeps g b) (l : List ℕ) where
   good_request (Screen q) w m e = as_asked (Screen q) (screen_request l) m.0 (good_screen e (record_fine l b m.1))
   good_request (Planner q) w m e = as_asked (Planner q) (planner_request l) m.0 (good_planner e w (record_fine l b m.1))
   good_request (Record q) w m e = as_asked (Record q) (plan_request (trains b)) m.0 (good_record e (plan_fine l b m.1))
+  good_request (Dearest q) w m e = as_asked (Dearest q) (dearest_request l) m.0 (good_dearest e m.1)
 
   -- 17, at once or for a reply that does not fit
   good_empty : Good g b l (answered b [])

@@ -1,5 +1,5 @@
 -- Demand 3 of document 01, as one claim about a whole list of calls from a fresh block. Nothing else stands in this file; `demand` in proofs/Demand.antt proves it. What follows from each
--- part of it, so that it cannot be said more weakly unseen, stands in proofs/Uses.antt, proofs/UsesForbidden.antt and proofs/UsesRecords.antt; the name of the law there is in brackets.
+-- part of it, so that it cannot be said more weakly unseen, stands in proofs/Uses.antt, proofs/UsesForbidden.antt, proofs/UsesRecords.antt and proofs/UsesDearest.antt; the name of the law there is in brackets.
 use Rattle.std.specs.Prelude.{◌≡◌, Bool, true, false, List, [], ◌∷◌, ◌⊎◌, ℕ, ◌*◌, ◌-◌, ◌<◌, ◌≤◌, ◌^◌, eqb, drop, ℤ, Ok}
 use Rattle.theory.specs.Order.{each_once}
 use Rattle.tables.specs.Block.{held_choice_place, held_entry_place, at, trains, scale, pairs, constant, size, first, second, loaded_choice, loaded_entry}
@@ -10,11 +10,12 @@ use Rattle.bounds.specs.Bounds.{bound_of}
 use Rattle.certificates.specs.Rival.{Rival, IsRival, ConstantAtMost}
 use Rattle.weights.specs.Rival.{Amounts, Leaves, LiftsAtMost}
 use Rattle.reasons.specs.Reasons.{no_partner}
+use Rattle.dearest.specs.Dearest.{max_tries, dearest_tries, dearest}
 use Rattle.lines.specs.declared.kind.Kind.{Kind}
-use Rattle.lines.specs.declared.kind.Kind.TheVariants.{Load, Add, Shift, Tighten, Certify, Search, Save, Round, Clauses, Explain, Order, Screen, Planner, Record}
+use Rattle.lines.specs.declared.kind.Kind.TheVariants.{Load, Add, Shift, Tighten, Certify, Search, Save, Round, Clauses, Explain, Order, Screen, Planner, Record, Dearest}
 use Rattle.lines.specs.declared.request.Line.TheVariants.{Asked}
 use Rattle.lines.specs.Kinds.{kind_number, new_kind}
-use Rattle.lines.specs.Layout.{kind_of, explain_train, explain_choice, explain_limit, order_train, kind_width, record_trains, record_choice, record_bound, record_cost, plan_choice}
+use Rattle.lines.specs.Layout.{kind_of, explain_train, explain_choice, explain_limit, order_train, kind_width, record_trains, record_choice, record_bound, record_cost, plan_choice, numbers_in, load_trains, dearest_size_field}
 use Rattle.clauses.specs.Clauses.{failed_weight}
 use Rattle.kinds.specs.Load.{load_request}
 use Rattle.decoding.specs.Numbers.{numbers_of}
@@ -25,6 +26,10 @@ use Rattle.replies.specs.Shown.{kind_shown, accepted, number_shown, constant_sho
 use Rattle.service.specs.Calls.{Call, Exchange, last_block, blocks, exchanges}
 use Rattle.claims.specs.Ledger.{Ledger, numbers_ledger, by_kind, fed, ledger_of, empty_ledger, cost_of, has_load}
 use Rattle.claims.specs.OnePlan.{OnePlan}
+
+-- the sizes of a line of kind 0F
+abbrev pub sizes_of : List ℕ → List ℕ
+sizes_of l = numbers_in l dearest_size_field (load_trains l)
 
 -- a plan of a ledger
 abbrev pub PlanOf : Ledger → (ℕ → ℕ) → Type 0
@@ -182,6 +187,15 @@ pub record WrittenClaim (g : Ledger) (e : Exchange) : Type 0 where
   -- the bound is at most every plan's cost (`high_written`)
   pub low : (x : ℕ → ℕ) → PlanOf g x → record_bound e.reply ≤ cost_of g x
 
+-- document 02, change 13: 'It answers with a load line'
+pub record DearestClaim (e : Exchange) : Type 0 where
+  -- that every block takes (`long_dearest`)
+  pub taken : (b : List ℤ) → line_of e.reply b ≡ Asked (load_request e.reply)
+  -- of the dearest study of the line's sizes, n, sizes and costs, with s = 1 and no pairs: 'equal sizes get equal lines' (`free_dearest`, `other_sizes`, `equal_lines`)
+  pub gives : numbers_of e.reply ≡ dearest (sizes_of e.line)
+  -- whose search tries no more choices than may be: 24 where 'that sum exceeds 10,000,000' (`many_tries`)
+  pub few : dearest_tries (sizes_of e.line) ≤ max_tries
+
 -- each kind's own (`high_bound`, `high_added`, `high_shifted`, `high_tightened`)
 abbrev pub Claim : Kind → Ledger → List ℤ → Exchange → Type 0
 Claim Load g b e = BoundClaim g e
@@ -198,8 +212,9 @@ Claim Order g b e = OrderClaim g e
 Claim Screen g b e = ScreenClaim g e
 Claim Planner g b e = PlannerClaim g e
 Claim Record g b e = WrittenClaim g e
+Claim Dearest g b e = DearestClaim e
 
--- 'Kinds 01 to 04: 81 to 84', 'Certify: 85', 'Search: 86'; of a round 88, of clauses 89, of a reason 8A, of an order 8B, of records 8C to 8E; a save's reply, a load line, begins with 01
+-- 'Kinds 01 to 04: 81 to 84', 'Certify: 85', 'Search: 86'; of a round 88, of clauses 89, of a reason 8A, of an order 8B, of records 8C to 8E; the replies to a save and to a line of kind 0F, load lines, begin with 01
 abbrev pub shown_kind : Kind → ℕ
 shown_kind Load = reply_kind Load
 shown_kind Add = reply_kind Add
@@ -215,12 +230,13 @@ shown_kind Order = reply_kind Order
 shown_kind Screen = reply_kind Screen
 shown_kind Planner = reply_kind Planner
 shown_kind Record = reply_kind Record
+shown_kind Dearest = kind_number Load
 
 pub record AtLine (g : Ledger) (b : List ℤ) (e : Exchange) : Type 0 where
   -- 'The first byte is the kind': an accepted line has one (`no_kind`)
   pub kind : Kind
   pub known : new_kind (kind_of e.line) ≡ Ok kind
-  -- it is answered under its own kind (`other_kind`, `save_under_87`)
+  -- it is answered under its own kind (`other_kind`, `save_under_87`, `dearest_under_8f`)
   pub answered : kind_shown e.reply ≡ shown_kind kind
   -- and what its kind claims holds
   pub claim : Claim kind g b e
@@ -243,6 +259,7 @@ never_outside Order = false
 never_outside Screen = false
 never_outside Planner = false
 never_outside Record = false
+never_outside Dearest = false
 
 -- 0E 'writes one'
 abbrev pub writes_record : Kind → Bool
@@ -260,6 +277,7 @@ writes_record Order = false
 writes_record Screen = false
 writes_record Planner = false
 writes_record Record = true
+writes_record Dearest = false
 
 pub record AtCall (g : Ledger) (b : List ℤ) (e : Exchange) : Type 0 where
   -- 'A line is accepted if its reply isn't empty and doesn't begin with FF'

@@ -5,7 +5,7 @@ use Rattle.tables.specs.WellFormed.{fresh_block}
 use Rattle.tables.specs.Numbers.{Numbers, numbers, numbers_shape, numbers_costs}
 use Rattle.tables.specs.Plans.{Shape, Costs, total}
 use Rattle.lines.specs.declared.kind.Kind.{Kind}
-use Rattle.lines.specs.declared.kind.Kind.TheVariants.{Load, Add, Shift, Tighten, Certify, Search, Save, Round, Clauses, Explain, Order, Screen, Planner, Record}
+use Rattle.lines.specs.declared.kind.Kind.TheVariants.{Load, Add, Shift, Tighten, Certify, Search, Save, Round, Clauses, Explain, Order, Screen, Planner, Record, Dearest}
 use Rattle.lines.specs.Kinds.{new_kind}
 use Rattle.lines.specs.Layout.{kind_of, add_train, add_choice, add_points}
 use Rattle.decoding.specs.Numbers.{numbers_of}
@@ -70,6 +70,7 @@ changed Order l g = g
 changed Screen l g = g
 changed Planner l g = g
 changed Record l g = g
+changed Dearest l g = g
 
 -- 'a list with an accepted load': the kinds that load; a line of clauses 'counts as an accepted load'
 abbrev pub loads : Kind → Bool
@@ -87,6 +88,7 @@ loads Order = false
 loads Screen = false
 loads Planner = false
 loads Record = false
+loads Dearest = false
 
 -- ---- lists of lines with their replies
 

@@ -6,3 +6,4 @@ pub mod RoundTrip
 pub mod RunDigits
 pub mod Stands
 pub mod There
+pub mod Front

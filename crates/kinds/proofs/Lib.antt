@@ -3,5 +3,5 @@ pub mod LoadFields
 pub mod LoadAccepted
 pub mod Accepted
 pub mod ClausesAccepted
-pub mod Front
 pub mod RecordsAccepted
+pub mod DearestAccepted

@@ -29,7 +29,7 @@ use Rattle.lines.specs.Layout.{kind_width, kind_of, numbers_in, end_of, further,
 use Rattle.lines.specs.Verdicts.{field_verdict, end_verdict, field_run}
 use Rattle.lines.proofs.Judged.{field_fine, end_fine}
 use Rattle.kinds.specs.Records.{held_verdict, record_verdict, screen_request, plan_verdict}
-use Rattle.kinds.proofs.Front.{same_field}
+use Rattle.frames.proofs.Front.{same_field}
 
 -- another number of choices is not held
 pub held_other : (s : Shape) (n : ℕ) (x : ℕ → ℕ) → (n ≡ s.trains → ⊥) → choices_held s n x ≡ false

@@ -2,4 +2,5 @@
 pub mod Load
 pub mod Clauses
 pub mod Records
+pub mod Dearest
 pub mod Lines

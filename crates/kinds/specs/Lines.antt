@@ -24,6 +24,7 @@ use Rattle.lines.specs.Verdicts.{field_verdict, end_verdict, last_verdict, runs_
 use Rattle.kinds.specs.Load.{load_verdict, load_request}
 use Rattle.kinds.specs.Clauses.{clauses_verdict, clauses_request}
 use Rattle.kinds.specs.Records.{record_verdict, screen_request, planner_request, plan_verdict, plan_request}
+use Rattle.kinds.specs.Dearest.{dearest_verdict, dearest_request}
 
 -- a kind without fields: '04 tighten: no fields', 07 save and 08, a directional round
 abbrev pub bare_verdict : List ℕ → Verdict
@@ -96,6 +97,7 @@ kind_verdict kind.Order l b = order_verdict l (trains b)
 kind_verdict kind.Screen l b = record_verdict l b
 kind_verdict kind.Planner l b = record_verdict l b
 kind_verdict kind.Record l b = plan_verdict l b
+kind_verdict kind.Dearest l b = dearest_verdict l
 
 abbrev pub kind_request : Kind → List ℕ → List ℤ → Request
 kind_request kind.Load l b = load_request l
@@ -112,6 +114,7 @@ kind_request kind.Order l b = order_request (trains b)
 kind_request kind.Screen l b = screen_request l
 kind_request kind.Planner l b = planner_request l
 kind_request kind.Record l b = plan_request (trains b)
+kind_request kind.Dearest l b = dearest_request l
 
 abbrev pub fields_asked : Kind → List ℕ → List ℤ → Result Request Refusal
 fields_asked k l b = request_if (kind_verdict k l b) (kind_request k l b)

@@ -16,6 +16,7 @@ mod add;
 mod bare;
 mod certify;
 pub mod clause_fields;
+mod dearest;
 mod explain_fields;
 pub mod load;
 mod order;
@@ -35,6 +36,7 @@ pub fn read_fields(frame: Frame<'_>, kind: Kind, block: Block<'_>) -> Result<Req
     match (kind, block) {
         (Kind::Load, _) => load::read_load(frame),
         (Kind::Clauses, _) => clause_fields::read_clauses(frame),
+        (Kind::Dearest, _) => dearest::read_dearest(frame),
         (Kind::Add, Block::Held(study)) => add::read_add(frame, study),
         (Kind::Shift, Block::Held(study)) => shift::read_shift(frame, study),
         (Kind::Tighten, Block::Held(_)) => bare::read_bare(frame, Request::Tighten),

@@ -33,7 +33,7 @@ pub const SCALE: Field = Field {
     refusal: Refusal::Range,
 };
 // The first size.
-const SIZE: Field = Field {
+pub const SIZE: Field = Field {
     at: SCALE.at + SCALE.width,
     width: Field::COUNT_WIDTH,
     rule: Rule::Between(1, Block::CHOICES as u64),

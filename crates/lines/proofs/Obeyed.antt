@@ -26,9 +26,12 @@ obeys_between {low} {high} width v h = rw (le-leb low v h.0, le-leb v high h.1)
 pub cost_fits : (v : ℕ) → is_cost v ≡ true → v < 256 ^ cost_width
 cost_fits v h = omega (arith, cost_high v h)
 
-field-judged : (l : List ℕ) (f : Field) → Read l f → field_verdict l f ≡ Fine
+pub field-judged : (l : List ℕ) (f : Field) → Read l f → field_verdict l f ≡ Fine
 unfolding field_verdict
 field-judged l f h = rw (le-leb (end_of f) (bytes l) h.there, h.right)
+
+pub run_judged : (l : List ℕ) (f : Field) (n : ℕ) → ((k : ℕ) → k < n → Read l (further f k)) → run_verdict l f n ≡ Fine
+run_judged l f n h = first-all _ n (λ k q. field-judged l (further f k) (h k q))
 
 pub end_judged : (count at : ℕ) → at ≡ count → end_verdict count at ≡ Fine
 end_judged count at e = rw (eq-eqb at count e)
@@ -44,7 +47,4 @@ module _ {l : List ℕ} (f : Field) where
   pub run_stands_fine : (n : ℕ) (g : ℕ → ℕ) (rest : List ℕ) → Stands l f.at (run_digits f.width n g rest)
       → ((k : ℕ) → k < n → g k < 256 ^ f.width) → ((k : ℕ) → k < n → obeys f.rule f.width (g k) ≡ true) → run_verdict l f n ≡ Fine
   run_stands_fine n g rest s h e =
-      first-all _ n
-      (λ k q.
-      field-judged l (further f k)
-      (record { there = run_inside f.width n g rest s k q; right = rw (stands_run f.width n g rest s k q (h k q)) (e k q) }))
+      run_judged l f n (λ k q. record { there = run_inside f.width n g rest s k q; right = rw (stands_run f.width n g rest s k q (h k q)) (e k q) })

@@ -5,9 +5,9 @@ use Rattle.refusals.specs.declared.Refusal.TheVariants.{NoKind}
 use Rattle.lines.specs.declared.kind.Kind.{Kind}
 use Rattle.lines.specs.declared.kind.Kind.TheVariants as kind
 use Rattle.lines.specs.declared.request.Request.{Request}
-use Rattle.lines.specs.declared.request.Request.TheVariants.{Load, Add, Shift, Tighten, Certify, Search, Save, Round, Clauses, Explain, Order, Screen, Planner, Record}
+use Rattle.lines.specs.declared.request.Request.TheVariants.{Load, Add, Shift, Tighten, Certify, Search, Save, Round, Clauses, Explain, Order, Screen, Planner, Record, Dearest}
 
--- '01 load', '02 add', '03 shift', '04 tighten', '05 certify', '06 search'; document 02: 'Kind 07', a save, 'Kind 08', a directional round, 'Kind 09', a study written as clauses, 'Kind 0A', why a choice is out, 'Kind 0B', the order of the trains, 'Kind 0E', which writes a plan record, 'Kind 0C', which 'reads one for screens', and 'Kind 0D', which 'reads one for planners'
+-- '01 load', '02 add', '03 shift', '04 tighten', '05 certify', '06 search'; document 02: 'Kind 07', a save, 'Kind 08', a directional round, 'Kind 09', a study written as clauses, 'Kind 0A', why a choice is out, 'Kind 0B', the order of the trains, 'Kind 0E', which writes a plan record, 'Kind 0C', which 'reads one for screens', and 'Kind 0D', which 'reads one for planners', 'Kind 0F', the dearest study of given sizes
 abbrev pub kind_number : Kind → ℕ
 kind_number kind.Load = 1
 kind_number kind.Add = 2
@@ -23,6 +23,7 @@ kind_number kind.Order = 11
 kind_number kind.Screen = 12
 kind_number kind.Planner = 13
 kind_number kind.Record = 14
+kind_number kind.Dearest = 15
 
 -- this kind where the number is its own
 abbrev pub kind_if : Kind → ℕ → Result Kind Refusal → Result Kind Refusal
@@ -45,6 +46,7 @@ all_kinds =
     ∷ kind.Screen
     ∷ kind.Planner
     ∷ kind.Record
+    ∷ kind.Dearest
     ∷ []
 
 -- the kind of these that has this number, or 3 where none has
@@ -56,7 +58,7 @@ kind_among (k ∷ kinds) n = kind_if k n (kind_among kinds n)
 unfoldable pub new_kind : ℕ → Result Kind Refusal
 new_kind n = kind_among all_kinds n
 
--- 4: 'kinds 02-06 on a fresh block', 07, 08 and 0A to 0E; 09 loads
+-- 4: 'kinds 02-06 on a fresh block', 07, 08 and 0A to 0E; 09 loads, and of 0F: 'Of the block only 16 is judged'
 abbrev pub needs_study : Kind → Bool
 needs_study kind.Load = false
 needs_study kind.Add = true
@@ -72,6 +74,7 @@ needs_study kind.Order = true
 needs_study kind.Screen = true
 needs_study kind.Planner = true
 needs_study kind.Record = true
+needs_study kind.Dearest = false
 
 -- the kind of a request
 abbrev pub request_kind : Request → Kind
@@ -89,3 +92,4 @@ request_kind (Order q) = kind.Order
 request_kind (Screen q) = kind.Screen
 request_kind (Planner q) = kind.Planner
 request_kind (Record q) = kind.Record
+request_kind (Dearest q) = kind.Dearest

@@ -90,8 +90,12 @@ scale_field = field_as (end_of trains_field) scale_width (Between scale_min scal
 abbrev pub load_scale : List ℕ → ℕ
 load_scale l = number_in l scale_field
 
+-- the first size, at byte `at`
+abbrev pub size_field_at : ℕ → Field
+size_field_at at = field_as at count_width (Between 1 max_choices) Range
+
 abbrev pub size_field : Field
-size_field = field_as (end_of scale_field) count_width (Between 1 max_choices) Range
+size_field = size_field_at (end_of scale_field)
 
 abbrev pub load_size : List ℕ → ℕ → ℕ
 load_size l i = number_in l (further size_field i)
@@ -309,3 +313,11 @@ plan_choice_field = field_as kind_width count_width Any Fields
 -- the choice of train i
 abbrev pub plan_choice : List ℕ → ℕ → ℕ
 plan_choice l i = number_in l (further plan_choice_field i)
+
+-- ---- 0F, document 02, change 13: 'n and sizes', by the ranges of a load; n stands where a load has it
+
+abbrev pub dearest_size_field : Field
+dearest_size_field = size_field_at (end_of trains_field)
+
+abbrev pub dearest_size : List ℕ → ℕ → ℕ
+dearest_size l i = number_in l (further dearest_size_field i)

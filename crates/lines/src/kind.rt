@@ -20,6 +20,7 @@ pub enum Kind {
     Screen,
     Planner,
     Record,
+    Dearest,
 }
 
 impl Kind {
@@ -27,11 +28,11 @@ impl Kind {
     pub const WIDTH: usize = 1;
 
     // Whether a line of this kind is declined on a fresh block.
-    // A rule of document 01 in one `matches!`: no derive or method tells two kinds from nine.
+    // A rule of document 01 in one `matches!`: no derive or method tells three kinds from twelve.
     pub fn needs_study(self) -> bool
         ensures { result ≡ needs_study self }
     {
-        !matches!(self, Kind::Load | Kind::Clauses)
+        !matches!(self, Kind::Load | Kind::Clauses | Kind::Dearest)
     }
 }
 
@@ -61,6 +62,7 @@ impl TryFrom<u64> for Kind {
             12 => Ok(Kind::Screen),
             13 => Ok(Kind::Planner),
             14 => Ok(Kind::Record),
+            15 => Ok(Kind::Dearest),
             _ => Err(Refusal::NoKind),
         }
     }
@@ -89,6 +91,7 @@ impl From<Kind> for u64 {
             Kind::Screen => 12,
             Kind::Planner => 13,
             Kind::Record => 14,
+            Kind::Dearest => 15,
         }
     }
 }

@@ -1,4 +1,4 @@
-// Document 01, 'Lines': a read line is either a refusal or one of fourteen requests, each with its own fields. Offsets, in bytes, stand for long fields.
+// Document 01, 'Lines': a read line is either a refusal or one of fifteen requests, each with its own fields. Offsets, in bytes, stand for long fields.
 use crate::field::Field;
 use refusals::Refusal;
 use tables::block::Block;
@@ -127,6 +127,12 @@ pub struct Record {
     pub choices: FieldRun,
 }
 
+// The sizes whose dearest study is asked for.
+#[derive(Clone, Copy)]
+pub struct Dearest {
+    pub sizes: FieldRun,
+}
+
 #[derive(Clone, Copy)]
 pub enum Request {
     Load(Load),
@@ -143,6 +149,7 @@ pub enum Request {
     Screen(Screen),
     Planner(Planner),
     Record(Record),
+    Dearest(Dearest),
 }
 
 // What a line asks, or why it is declined: an enum of its own and no Result, as document 01's Forms ask.

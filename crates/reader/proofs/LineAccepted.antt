@@ -1,10 +1,12 @@
--- What an accepted line is: its frame, its kind's verdict, and its request.
+-- What an accepted line is: its frame, its kind's verdict, and its request. And back: a frame with a kind whose fields are fine asks its request.
 use mathlib.Core.Path.{◌≡◌, refl, sym, subst}
 use mathlib.Core.Bool.{Bool, true, false, cond, ◌&&◌}
 use mathlib.Core.List.{List}
 use Prim.Native.Nat.{ℕ, ◌-◌, ◌<◌, ◌≤◌, ◌^◌}
 use native.Mathlib.Omega.{arith}
 use lib.IntN.{ℤ}
+use lib.ListN.{length}
+use borrow.Author.Tests.{le-ltb}
 use Rattle.std.specs.Prelude.{Result, Ok, Err}
 use Rattle.theory.proofs.Sum.{part_inside}
 use Rattle.refusals.specs.declared.Refusal.{Refusal}
@@ -13,7 +15,7 @@ use Rattle.tables.specs.Block.{trains, size}
 use Rattle.tables.specs.WellFormed.{is_fresh, Study}
 use Rattle.tables.proofs.Study.{trains_range, size_range}
 use Rattle.frames.specs.Digits.{bytes}
-use Rattle.frames.specs.Frames.{new_frame, Framed}
+use Rattle.frames.specs.Frames.{max_characters, new_frame, Framed}
 use Rattle.frames.proofs.Bytes.{Whole, framed_whole, new_framed}
 use Rattle.frames.proofs.Widths.{field_below}
 use Rattle.lines.specs.declared.kind.Kind.{Kind}
@@ -21,8 +23,9 @@ use Rattle.lines.specs.declared.kind.Kind.TheVariants.{Load}
 use Rattle.lines.specs.declared.request.Request.{Request}
 use Rattle.lines.specs.declared.request.Line.{Line}
 use Rattle.lines.specs.declared.request.Line.TheVariants.{Asked, Refused}
-use Rattle.lines.specs.Kinds.{new_kind, needs_study, request_kind}
+use Rattle.lines.specs.Kinds.{kind_number, new_kind, needs_study, request_kind}
 use Rattle.lines.specs.Layout.{kind_of, number_in, further, weight_width, weight_field, add_train, add_choice, explain_train, explain_choice, limit_width, limit_field, explain_limit}
+use Rattle.lines.proofs.KindNumbers.{number_kind}
 use Rattle.kinds.specs.Lines.{concluded, kind_verdict, kind_request, study_line}
 use Rattle.kinds.proofs.Accepted.{FineAdd, FineCertify, FineExplain}
 use Rattle.reader.specs.Reading.{new_kind_line, kind_line, framed_line, line_of}
@@ -118,3 +121,11 @@ weight_below {l} {weights} w f k h = field_below w (further weight_field k).at w
 -- a limit is any number of 4 bytes
 pub limit_below : {l : List ℕ} {b : List ℤ} → Whole l → FineExplain l b → explain_limit l < 2 ^ 32
 limit_below {l} {b} w f = field_below w limit_field.at limit_width (omega (arith, f.ends))
+
+-- ---- the other way
+
+-- a frame of a kind whose fields are judged fine asks what they say
+pub line_asks : (k : Kind) (l : List ℕ) (b : List ℤ) (n : ℕ) → Framed l n → kind_of l ≡ kind_number k → needs_study k && is_fresh b ≡ false → kind_verdict k l b ≡ Fine
+    → line_of l b ≡ Asked (kind_request k l b)
+unfolding line_of kind_line study_line
+line_asks k l b n f known loaded fine = rw (le-ltb max_characters (length l) f.short, f.digits, known, number_kind k, loaded, fine)

@@ -1,4 +1,4 @@
--- Under which numbers the reader declines a line: never under 10, 12, 14 or 23, which are judged once a line is read, nor under 16, which is judged before. Each verdict is made of fields, runs
+-- Under which numbers the reader declines a line: never under 10, 12, 14, 23 or 24, which are judged once a line is read, nor under 16, which is judged before. Each verdict is made of fields, runs
 -- of fields and ends, in turn; each of these declines under 5 or under the number that its rule names.
 use mathlib.Core.Path.{◌≡◌, refl, subst}
 use mathlib.Core.Bool.{Bool, true, false, cond, ◌&&◌, ◌||◌, not}
@@ -21,23 +21,24 @@ use Rattle.clauses.specs.Clauses.{literals_right}
 use Rattle.frames.specs.Frames.{max_characters, framed, new_frame}
 use Rattle.frames.specs.Digits.{bytes}
 use Rattle.lines.specs.declared.kind.Kind.{Kind}
-use Rattle.lines.specs.declared.kind.Kind.TheVariants.{Load, Add, Shift, Tighten, Certify, Search, Save, Round, Clauses, Explain, Order, Screen, Planner, Record}
+use Rattle.lines.specs.declared.kind.Kind.TheVariants.{Load, Add, Shift, Tighten, Certify, Search, Save, Round, Clauses, Explain, Order, Screen, Planner, Record, Dearest}
 use Rattle.lines.specs.declared.field.Field.{Field}
 use Rattle.lines.specs.declared.request.Request.{Request}
 use Rattle.lines.specs.declared.request.Line.{Line}
 use Rattle.lines.specs.declared.request.Line.TheVariants.{Asked, Refused}
 use Rattle.lines.specs.Kinds.{kind_number, kind_if, all_kinds, kind_among, new_kind, needs_study}
-use Rattle.lines.specs.Layout.{kind_width, kind_of, number_in, further, trains_field, scale_field, size_field, pair_count_field, add_train, points_field, lift_field, move_field, full_weight_field, weight_field, budget_field, load_trains, load_pairs, choice_count, entry_count, pair_at, end_of, below, choice_field, entry_field, add_train_field, add_choice_field, clause_count_field, clause_count, clause_at, clause_weight_field, clause_first, clause_second, limit_field, order_field, order_train, record_trains_field, record_trains, record_choice, record_cost_field, plan_choice_field, plan_choice}
+use Rattle.lines.specs.Layout.{kind_width, kind_of, number_in, further, trains_field, scale_field, size_field, pair_count_field, add_train, points_field, lift_field, move_field, full_weight_field, weight_field, budget_field, load_trains, load_pairs, choice_count, entry_count, pair_at, end_of, below, choice_field, entry_field, add_train_field, add_choice_field, clause_count_field, clause_count, clause_at, clause_weight_field, clause_first, clause_second, limit_field, order_field, order_train, record_trains_field, record_trains, record_choice, record_cost_field, plan_choice_field, plan_choice, dearest_size_field}
 use Rattle.lines.specs.Verdicts.{obeys, field_verdict, run_verdict, end_verdict, runs_verdict, last_verdict}
 use Rattle.kinds.specs.Load.{pair_ordered, pair_verdict, head_verdict, rest_verdict, load_verdict}
 use Rattle.kinds.specs.Clauses.{clause_verdict, clause_run_verdict, clauses_verdict}
 use Rattle.kinds.specs.Records.{record_verdict, plan_verdict}
+use Rattle.kinds.specs.Dearest.{dearest_verdict}
 use Rattle.kinds.specs.Lines.{choice_verdict, add_verdict, shift_verdict, certify_verdict, search_verdict, explain_verdict, order_verdict, concluded, kind_verdict, study_line}
 use Rattle.reader.specs.Reading.{new_kind_line, kind_line, framed_line, line_of}
 
--- 'Order: 17, 16, .. Then fields .. Then 10, 12 or 14', and document 02, change 11, 23: the numbers that reading a line gives are the others
+-- 'Order: 17, 16, .. Then fields .. Then 10, 12 or 14', and document 02, change 11, 23, and change 13, 24: the numbers that reading a line gives are the others
 abbrev pub of_reading : ℕ → Bool
-of_reading n = not (eqb n 10 || eqb n 12 || eqb n 14 || eqb n 16 || eqb n 23)
+of_reading n = not (eqb n 10 || eqb n 12 || eqb n 14 || eqb n 16 || eqb n 23 || eqb n 24)
 
 abbrev Own : Refusal → Type 0
 Own r = of_reading (refusal_number r) ≡ true
@@ -156,6 +157,13 @@ module _ (l : List ℕ) where
   unfolding plan_verdict
   reads_plan b = reads_then (reads_end (further plan_choice_field (trains b)).at) (reads_unless (choices_held (shape_of b) (trains b) (plan_choice l)) NotHeld refl)
 
+  -- 5 and 6
+  reads_dearest : Reads (dearest_verdict l)
+  unfolding dearest_verdict
+  reads_dearest =
+      reads_then (reads_field trains_field refl)
+      (reads_then (reads_run dearest_size_field (load_trains l) refl) (reads_end (further dearest_size_field (load_trains l)).at))
+
 -- ---- the line
 
 -- a kind, or 3
@@ -207,6 +215,7 @@ module _ (l : List ℕ) (b : List ℤ) where
   reads_kind Screen = reads_record l b
   reads_kind Planner = reads_record l b
   reads_kind Record = reads_plan l b
+  reads_kind Dearest = reads_dearest l
 
   own_study : (k : Kind) → OwnLine (study_line k l b)
   unfolding study_line
@@ -237,6 +246,6 @@ module _ (l : List ℕ) (b : List ℤ) where
       go (Ok _) o = own_kind
       go (Err r) o = o
 
-  -- the reader declines a line under none of 10, 12, 14, 16 and 23
+  -- the reader declines a line under none of 10, 12, 14, 16, 23 and 24
   pub line_refused : (r : Refusal) → line_of l b ≡ Refused r → of_reading (refusal_number r) ≡ true
   line_refused r e = subst (λ (x : Line). OwnLine x) e own_line

@@ -1,4 +1,4 @@
-// Document 01, 'What is declined', and document 02, changes 5, 7, 10 and 11: the reasons, with their numbers, and verdicts on a line, a field or an operation.
+// Document 01, 'What is declined', and document 02, changes 5, 7, 10, 11 and 13: the reasons, with their numbers, and verdicts on a line, a field or an operation.
 #![tactic(auto)]
 
 #[derive(Clone, Copy, PartialEq, Eq)]
@@ -46,6 +46,8 @@ pub enum Refusal {
     NotHeld,
     // A plan with a forbidden entry, a cost that is not its total, or a bound above that.
     Figures,
+    // More tries than a search may be asked to make.
+    Tries,
 }
 
 // Document 01's number of a refusal.
@@ -79,6 +81,7 @@ impl From<Refusal> for u8 {
             Refusal::Order => 21,
             Refusal::NotHeld => 22,
             Refusal::Figures => 23,
+            Refusal::Tries => 24,
         }
     }
 }

@@ -26,7 +26,7 @@ use Rattle.lines.proofs.Records.{first_byte, behind_first, choices_trains, choic
 use Rattle.search.specs.declared.answer.Found.{Found}
 use Rattle.search.specs.Answer.{is_found}
 use Rattle.replies.specs.Replies.{choice_width, refusal_widths, refusal_byte, refusal_reply, reply_kind, bound_widths, bound_reply, certify_widths, flag, certify_reply, search_widths, ending, shown_cost, shown_choice, search_reply, refusal_numbers, bound_numbers, certify_numbers, search_numbers, plan_digits, reason_widths, reason_numbers, reason_reply, order_widths, order_numbers, numbers_digits, order_reply, screen_reply, record_reply}
-use Rattle.replies.specs.Shown.{kind_shown, number_shown, constant_shown, bound_shown, flag_shown, weighted_shown, full_weight_shown, ending_shown, says_ended, says_ended_without, cost_shown, plan_shown, reason_shown, train_shown, order_shown}
+use Rattle.replies.specs.Shown.{kind_shown, number_shown, constant_shown, bound_shown, flag_shown, weighted_shown, full_weight_shown, ending_shown, says_ended, says_ended_without, count_shown, cost_shown, plan_shown, reason_shown, train_shown, order_shown}
 use Rattle.replies.proofs.ReplyFields.{fields_shown, run_shown}
 
 flag_low : (t : Bool) → flag t < 256
@@ -105,7 +105,8 @@ module _ (n : ℕ) (f : Found) where
   unfolding search_reply
   search_kind = fields_shown search_widths (search_numbers f) (plan_digits n f) refl 0 (omega arith) (omega arith)
 
-  ending-shown : ending_shown (search_reply n f) ≡ ending f
+  -- 01, 02 or 00
+  pub ending-shown : ending_shown (search_reply n f) ≡ ending f
   unfolding search_reply
   ending-shown = fields_shown search_widths (search_numbers f) (plan_digits n f) refl 1 (omega arith) (ending_low f.ended (is_found f))
 
@@ -116,6 +117,11 @@ module _ (n : ℕ) (f : Found) where
   -- 02: it ended, without one
   pub search_without : says_ended_without (search_reply n f) ≡ f.ended && not (is_found f)
   search_without = ap (λ (v : ℕ). eqb v 2) ending-shown ∙ ending_without f.ended (is_found f)
+
+  -- how many choices it tried
+  pub count-shown : f.count < 256 ^ 4 → count_shown (search_reply n f) ≡ f.count
+  unfolding search_reply
+  count-shown h = fields_shown search_widths (search_numbers f) (plan_digits n f) refl 2 (omega arith) h
 
   pub search_cost : shown_cost f < 256 ^ figure_width → cost_shown (search_reply n f) ≡ shown_cost f
   unfolding search_reply

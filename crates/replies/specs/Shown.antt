@@ -53,6 +53,9 @@ says_ended reply = eqb (ending_shown reply) 1
 abbrev pub says_ended_without : List ℕ → Bool
 says_ended_without reply = eqb (ending_shown reply) 2
 
+abbrev pub count_shown : List ℕ → ℕ
+count_shown reply = shown_in search_widths 2 reply
+
 abbrev pub cost_shown : List ℕ → ℕ
 cost_shown reply = shown_in search_widths 3 reply
 

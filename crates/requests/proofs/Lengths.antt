@@ -1,7 +1,7 @@
--- No reply to a request is empty or longer than the longest reply, and none but a saved line or a plan record is longer than the longest of the fixed replies.
+-- No reply to a request is empty or longer than the longest reply, and none but a saved line, a plan record or the line of a dearest study is longer than the longest of the fixed replies.
 use Rattle.std.specs.Prelude.{Result, Ok, Err}
 use Rattle.refusals.specs.declared.Refusal.{Refusal}
-use Rattle.refusals.specs.declared.Refusal.TheVariants.{Figures}
+use Rattle.refusals.specs.declared.Refusal.TheVariants.{Figures, Tries}
 use Rattle.certificates.specs.declared.certify.Ceiling.{Ceiling}
 use mathlib.Core.Path.{◌≡◌, refl}
 use mathlib.Core.Bool.{true}
@@ -19,6 +19,8 @@ use Rattle.tables.specs.WellFormed.{Study}
 use Rattle.tables.specs.Plans.{loaded_total}
 use Rattle.tables.proofs.Study.{trains_range}
 use Rattle.bounds.specs.Bounds.{bound_of}
+use Rattle.dearest.specs.Dearest.{SizesRight}
+use Rattle.dearest.proofs.Loaded.{dearest_in_range}
 use Rattle.operations.specs.Add.{add_outcome}
 use Rattle.operations.specs.Load.{loaded_block}
 use Rattle.clauses.specs.Outcomes.{clauses_outcome}
@@ -32,20 +34,22 @@ use Rattle.lines.specs.declared.kind.Kind.{Kind}
 use Rattle.lines.specs.declared.kind.Kind.TheVariants as kind
 use Rattle.lines.specs.declared.request.FieldRun.{FieldRun}
 use Rattle.lines.specs.declared.request.Request.{Request}
-use Rattle.lines.specs.declared.request.Request.TheVariants.{Load, Add, Shift, Tighten, Certify, Search, Save, Round, Clauses, Explain, Order, Screen, Planner, Record}
+use Rattle.lines.specs.declared.request.Request.TheVariants.{Load, Add, Shift, Tighten, Certify, Search, Save, Round, Clauses, Explain, Order, Screen, Planner, Record, Dearest}
 use Rattle.lines.specs.Kinds.{request_kind}
 use Rattle.lines.specs.Layout.{count_width, move_width, weight_width}
 use Rattle.decoding.specs.Numbers.{numbers_of}
 use Rattle.decoding.specs.Clauses.{clauses_of}
+use Rattle.decoding.proofs.Size.{load_length, load_longest}
 use Rattle.reasons.specs.Reasons.{reason_at}
 use Rattle.search.specs.Answer.{search_answer}
 use Rattle.replies.specs.Replies.{longest_fixed, longest_reply}
 use Rattle.replies.proofs.Lengths.{bound_length, certify_length, search_length, reason_length, order_length, screen_length, record_reply_length, refusal_length}
 use Rattle.saving.proofs.Together.{save_length, save_most}
-use Rattle.requests.specs.Answer.{operated, certified, recorded, choices_in, requested, fixed_reply}
+use Rattle.requests.specs.Answer.{operated, certified, recorded, dearest_given, choices_in, requested, fixed_reply}
 use Rattle.requests.specs.Wrote.{Asks, Chooses}
-use Rattle.requests.proofs.Ready.{study_ready, order_ready, screen_ready, planner_ready, plan_ready}
+use Rattle.requests.proofs.Ready.{study_ready, order_ready, screen_ready, planner_ready, plan_ready, dearest_ready}
 use Rattle.requests.proofs.Records.{recorded_cases}
+use Rattle.requests.proofs.Dearest.{dearest_cases}
 
 -- a reply of so many characters at most, but not empty
 abbrev pub UpTo : ℕ → List ℕ → Type 0
@@ -85,6 +89,7 @@ requested_short l b room (Order q) e a =
 requested_short l b room (Screen q) e a = omega (arith, screen_length (choices_in l q.choices), choices_most (screen_ready a))
 requested_short l b room (Planner q) e a = absurd (not_both e refl)
 requested_short l b room (Record q) e a = absurd (not_both e refl)
+requested_short l b room (Dearest q) e a = absurd (not_both e refl)
 
 -- a record of as many trains as there may be has 76 characters
 recorded_most : (kind : Kind) (choices : List ℕ) (bound cost : ℕ) (b : List ℤ) → length choices ≤ max_trains → UpTo longest_reply (recorded kind choices bound cost b).reply
@@ -95,6 +100,12 @@ saved_most : (l : List ℕ) (b : List ℤ) → Study b → UpTo longest_reply (r
 unfolding requested
 saved_most l b s = (omega (arith, save_length s), save_most s)
 
+-- the line of a dearest study is no longer than a load line may be
+dearest_most : (sizes : List ℕ) (b : List ℤ) → SizesRight sizes → UpTo longest_reply (dearest_given sizes b).reply
+dearest_most sizes b r =
+    let range = dearest_in_range r in
+    dearest_cases sizes b (λ a. UpTo longest_reply a.reply) (λ e. (omega (arith, load_length range), omega (arith, load_longest range))) (λ e. omega (arith, refusal_length Tries))
+
 -- every reply
 pub requested_most : (l : List ℕ) (b : List ℤ) (room : ℕ) (q : Request) → Asks l b q room → UpTo longest_reply (requested q l b).reply
 unfolding requested
@@ -102,4 +113,5 @@ requested_most l b room Save a = saved_most l b (study_ready a refl)
 requested_most l b room (Planner q) a = recorded_most kind.Planner (choices_in l q.choices) q.bound.0 q.cost.0 b (choices_most (planner_ready a))
 requested_most l b room (Record q) a =
     let choices = choices_in l q.choices in recorded_most kind.Record choices (bound_of b) (loaded_total b (nth choices)) b (choices_most (plan_ready a))
+requested_most l b room (Dearest q) a = dearest_most (choices_in l q.sizes) b (dearest_ready a).right
 requested_most l b room q a = omega (arith, requested_short l b room q refl a)

@@ -17,13 +17,14 @@ use Rattle.bounds.specs.Bounds.{bound_of}
 use Rattle.lines.specs.declared.kind.Kind.{Kind}
 use Rattle.lines.specs.declared.kind.Kind.TheVariants as kind
 use Rattle.lines.specs.declared.request.Request.{Request}
-use Rattle.lines.specs.declared.request.Request.TheVariants.{Certify, Search, Save, Explain, Screen, Planner, Record}
+use Rattle.lines.specs.declared.request.Request.TheVariants.{Certify, Search, Save, Explain, Screen, Planner, Record, Dearest}
 use Rattle.lines.specs.Kinds.{request_kind}
 use Rattle.lines.specs.Layout.{weight_width}
 use Rattle.replies.specs.Shown.{accepted}
 use Rattle.replies.proofs.Accepted.{refusal_refused}
-use Rattle.requests.specs.Answer.{operated, certified, recorded, choices_in, requested, leaves_block}
+use Rattle.requests.specs.Answer.{operated, certified, recorded, choices_in, dearest_given, requested, leaves_block}
 use Rattle.requests.proofs.Records.{recorded_cases}
+use Rattle.requests.proofs.Dearest.{dearest_cases}
 
 -- the block that an operation leaves
 pub operated_leaves : (kind : Kind) (o : Verdict) (old new : List ℤ) → (operated kind o old new).block ≡ settled o old new
@@ -44,6 +45,10 @@ certified_leaves full_weight (Ok c) b = refl
 recorded_leaves : (kind : Kind) (choices : List ℕ) (bound cost : ℕ) (b : List ℤ) → (recorded kind choices bound cost b).block ≡ b
 recorded_leaves kind choices bound cost b = recorded_cases kind choices bound cost b (λ a. a.block ≡ b) (λ e. refl) (λ e. refl)
 
+-- and so does the dearest study
+dearest_leaves : (sizes : List ℕ) (b : List ℤ) → (dearest_given sizes b).block ≡ b
+dearest_leaves sizes b = dearest_cases sizes b (λ a. a.block ≡ b) (λ e. refl) (λ e. refl)
+
 -- and so does every request of a kind that leaves the block
 pub requested_leaves : (q : Request) (l : List ℕ) (b : List ℤ) → leaves_block (request_kind q) ≡ true → (requested q l b).block ≡ b
 unfolding requested
@@ -54,4 +59,5 @@ requested_leaves (Explain q) l b e = refl
 requested_leaves (Screen q) l b e = refl
 requested_leaves (Planner q) l b e = recorded_leaves kind.Planner (choices_in l q.choices) q.bound.0 q.cost.0 b
 requested_leaves (Record q) l b e = let choices = choices_in l q.choices in recorded_leaves kind.Record choices (bound_of b) (loaded_total b (nth choices)) b
+requested_leaves (Dearest q) l b e = dearest_leaves (choices_in l q.sizes) b
 requested_leaves q l b e = absurd (not_both e refl)

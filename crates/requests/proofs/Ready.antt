@@ -3,7 +3,7 @@ use mathlib.Core.Path.{◌≡◌, refl, ◌∙◌}
 use mathlib.Core.Bool.{true}
 use mathlib.Core.List.{List}
 use mathlib.Core.Logic.{dite}
-use Prim.Native.Nat.{ℕ, ◌*◌, ◌<◌, ◌≤◌}
+use Prim.Native.Nat.{ℕ, ◌+◌, ◌*◌, ◌<◌, ◌≤◌}
 use native.Mathlib.Decide.{dec_lt}
 use native.Mathlib.Omega.{arith}
 use lib.IntN.{ℤ, pos, negsuc, nat_abs}
@@ -28,9 +28,11 @@ use Rattle.tighten.proofs.Ends.{tighten_rewrites}
 use Rattle.directional.specs.Directional.{direct_block}
 use Rattle.directional.proofs.Ends.{direct_rewrites}
 use Rattle.frames.specs.Digits.{bytes}
+use Rattle.frames.specs.Fields.{field}
 use Rattle.frames.specs.Frames.{Framed}
 use Rattle.frames.specs.Runs.{signed_run_of}
 use Rattle.lines.specs.declared.field.Field.{Field}
+use Rattle.lines.specs.declared.request.FieldRun.{FieldRun}
 use Rattle.lines.specs.declared.request.Load.{Load}
 use Rattle.lines.specs.declared.request.Add.{Add}
 use Rattle.lines.specs.declared.request.Shift.{Shift}
@@ -42,18 +44,20 @@ use Rattle.lines.specs.declared.request.Order.{Order}
 use Rattle.lines.specs.declared.request.Screen.{Screen}
 use Rattle.lines.specs.declared.request.Planner.{Planner}
 use Rattle.lines.specs.declared.request.Record.{Record}
+use Rattle.lines.specs.declared.request.Dearest.{Dearest}
 use Rattle.lines.specs.declared.request.Request.{Request}
-use Rattle.lines.specs.declared.request.Request.TheVariants.{Load as load_of, Add as add_of, Shift as shift_of, Certify as certify_of, Search as search_of, Clauses as clauses_request, Explain as explain_of, Order as order_of, Screen as screen_of, Planner as planner_of, Record as record_of}
+use Rattle.lines.specs.declared.request.Request.TheVariants.{Load as load_of, Add as add_of, Shift as shift_of, Certify as certify_of, Search as search_of, Clauses as clauses_request, Explain as explain_of, Order as order_of, Screen as screen_of, Planner as planner_of, Record as record_of, Dearest as dearest_of}
 use Rattle.lines.specs.Kinds.{needs_study, request_kind}
-use Rattle.lines.specs.Layout.{add_train, add_choice, add_points, certify_full_weight, search_budget, explain_train, explain_choice, explain_limit, order_field, order_train, record_trains, record_choice_field, record_bound, record_cost, plan_choice_field, number_in, signed_in, further, lift_field, move_field, weight_field}
+use Rattle.lines.specs.Layout.{count_width, add_train, add_choice, add_points, certify_full_weight, search_budget, explain_train, explain_choice, explain_limit, order_field, order_train, record_trains, record_choice_field, record_bound, record_cost, plan_choice_field, load_trains, dearest_size_field, number_in, signed_in, further, lift_field, move_field, weight_field}
 use Rattle.lines.specs.Verdicts.{field_run}
 use Rattle.kinds.specs.Records.{record_verdict}
 use Rattle.kinds.proofs.Accepted.{add_fine, shift_fine, certify_fine, search_fine, explain_fine, order_fine}
 use Rattle.kinds.proofs.RecordsAccepted.{record_fine, record_trains_held, record_choices_there, record_listed, plan_fine, plan_choices_there, plan_listed}
+use Rattle.kinds.proofs.DearestAccepted.{dearest_fine, dearest_sizes_there, sizes_count, sizes_each}
 use Rattle.decoding.proofs.LoadRange.{load_in_range}
 use Rattle.decoding.proofs.ClausesRange.{clauses_in_limits}
 use Rattle.reader.proofs.LineAccepted.{Makes, line_makes, frame_length, add_there, weight_below, explain_there, limit_below}
-use Rattle.requests.specs.Wrote.{Asks, Loads, Adds, Shifts, Certifies, LoadsClauses, Explains, Orders, Chooses}
+use Rattle.requests.specs.Wrote.{Asks, Loads, Adds, Shifts, Certifies, LoadsClauses, Explains, Orders, ChoicesThere, Chooses, SizesThere}
 
 module _ {l : List ℕ} {b : List ℤ} {q : Request} {room : ℕ} (a : Asks l b q room) where
   makes : Makes l b q
@@ -211,6 +215,19 @@ plan_ready {l} {b} {q} a =
     let s = study_ready a refl in
     let f = plan_fine l b m.1 in
     rw e (record { study = s; there = record { count = (trains_range s).1; inside = plan_choices_there f }; held = plan_listed f })
+
+-- ---- 0F, the dearest study of given sizes
+
+pub dearest_ready : {l : List ℕ} {b : List ℤ} {q : Dearest} {room : ℕ} → Asks l b (dearest_of q) room → SizesThere l q.sizes
+dearest_ready {l} {b} {q} a =
+    let m = makes a in
+    let e : q ≡ record { sizes = field_run dearest_size_field.at (load_trains l) } = cc in
+    let f = dearest_fine l m.1 in
+    rw e (record { inside = dearest_sizes_there f; right = record { trains = sizes_count f; each = sizes_each f } })
+
+-- they are no more than there may be trains
+pub sizes_there : {l : List ℕ} {run : FieldRun} → SizesThere l run → ChoicesThere l run
+sizes_there {l} {run} s = record { count = omega (arith, list_length (λ k. field l (run.at + count_width * k) count_width) run.count, s.right.trains); inside = s.inside }
 
 -- ---- a shift, a tightening or a directional round leaves a study, done or declined
 

@@ -2,7 +2,7 @@
 use Rattle.theory.specs.Lists.{nth}
 use Rattle.std.specs.Prelude.{Bool, true, false, cond, List, [], ℕ, ltb, ℤ, length, Result, Ok, Err}
 use Rattle.refusals.specs.declared.Refusal.{Refusal}
-use Rattle.refusals.specs.declared.Refusal.TheVariants.{Malformed, Figures}
+use Rattle.refusals.specs.declared.Refusal.TheVariants.{Malformed, Figures, Tries}
 use Rattle.refusals.specs.Verdicts.{Verdict}
 use Rattle.units.specs.Units.{number_of_points}
 use Rattle.tables.specs.Block.{trains}
@@ -10,6 +10,7 @@ use Rattle.tables.specs.WellFormed.{well_formed}
 use Rattle.tables.specs.Plans.{loaded_total}
 use Rattle.bounds.specs.Bounds.{bound_of}
 use Rattle.records.specs.Records.{record_right}
+use Rattle.dearest.specs.Dearest.{tries_within, dearest}
 use Rattle.operations.specs.Add.{added, add_outcome}
 use Rattle.operations.specs.Load.{loaded_block}
 use Rattle.operations.specs.Order.{ordered_block}
@@ -26,7 +27,7 @@ use Rattle.lines.specs.declared.kind.Kind.{Kind}
 use Rattle.lines.specs.declared.request.FieldRun.{FieldRun}
 use Rattle.lines.specs.declared.kind.Kind.TheVariants as kind
 use Rattle.lines.specs.declared.request.Request.{Request}
-use Rattle.lines.specs.declared.request.Request.TheVariants.{Load, Add, Shift, Tighten, Certify, Search, Save, Round, Clauses, Explain, Order, Screen, Planner, Record}
+use Rattle.lines.specs.declared.request.Request.TheVariants.{Load, Add, Shift, Tighten, Certify, Search, Save, Round, Clauses, Explain, Order, Screen, Planner, Record, Dearest}
 use Rattle.lines.specs.declared.request.Line.{Line}
 use Rattle.lines.specs.declared.request.Line.TheVariants.{Asked, Refused}
 use Rattle.lines.specs.Layout.{count_width, move_width, weight_width}
@@ -69,9 +70,13 @@ saved b = answered b (load_digits (saved_numbers b))
 abbrev pub recorded : Kind → List ℕ → ℕ → ℕ → List ℤ → Answer
 recorded kind choices bound cost b = cond (record_right b (nth choices) bound cost) (answered b (record_reply kind choices bound cost)) (declined b Figures)
 
--- the choices that a line gives
+-- the choices, or the sizes, that a line gives
 abbrev pub choices_in : List ℕ → FieldRun → List ℕ
 choices_in l run = run_of l run.at count_width run.count
+
+-- document 02, change 13: the dearest study of these sizes, as the line that loads it; '24, that sum exceeds 10,000,000, after 5'. It changes nothing in the block
+abbrev pub dearest_given : List ℕ → List ℤ → Answer
+dearest_given sizes b = cond (tries_within sizes) (answered b (load_digits (dearest sizes))) (declined b Tries)
 
 -- what each request does, with the long fields read from the line. 'Forbidden entries stay so': where moves end, what is forbidden is `kept`
 unfoldable pub requested : Request → List ℕ → List ℤ → Answer
@@ -92,6 +97,7 @@ requested (Order q) l b = let trains = run_of l q.trains.at count_width q.trains
 requested (Screen q) l b = answered b (screen_reply (choices_in l q.choices))
 requested (Planner q) l b = recorded kind.Planner (choices_in l q.choices) (number_of_points q.bound) (number_of_points q.cost) b
 requested (Record q) l b = let choices = choices_in l q.choices in recorded kind.Record choices (bound_of b) (loaded_total b (nth choices)) b
+requested (Dearest q) l b = dearest_given (choices_in l q.sizes) b
 
 -- what a line asks, done, or the refusal
 abbrev pub carried_out : Line → List ℕ → List ℤ → Answer
@@ -114,8 +120,9 @@ fixed_reply kind.Order = true
 fixed_reply kind.Screen = true
 fixed_reply kind.Planner = false
 fixed_reply kind.Record = false
+fixed_reply kind.Dearest = false
 
--- the kinds that leave the block as it was, accepted or declined: 'Certify and search change nothing in the block', nor does a save, a reason or a record
+-- the kinds that leave the block as it was, accepted or declined: 'Certify and search change nothing in the block', nor does a save, a reason, a record or the dearest study
 abbrev pub leaves_block : Kind → Bool
 leaves_block kind.Load = false
 leaves_block kind.Add = false
@@ -131,6 +138,7 @@ leaves_block kind.Order = false
 leaves_block kind.Screen = true
 leaves_block kind.Planner = true
 leaves_block kind.Record = true
+leaves_block kind.Dearest = true
 
 -- 17: a reply that is longer than the room for it 'hands back an empty part and writes nothing', and leaves the block
 abbrev pub fitted : ℕ → List ℤ → Answer → Answer

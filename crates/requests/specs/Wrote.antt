@@ -24,6 +24,7 @@ use Rattle.lines.specs.declared.request.Clauses.{Clauses}
 use Rattle.lines.specs.declared.request.Explain.{Explain}
 use Rattle.lines.specs.declared.request.Order.{Order}
 use Rattle.lines.specs.declared.request.FieldRun.{FieldRun}
+use Rattle.dearest.specs.Dearest.{SizesRight}
 use Rattle.lines.specs.declared.request.Request.{Request}
 use Rattle.lines.specs.declared.request.Request.TheVariants.{Load as load_of, Clauses as clauses_asked}
 use Rattle.lines.specs.declared.request.Line.TheVariants.{Asked}
@@ -112,3 +113,8 @@ pub record Chooses (l : List ℕ) (b : List ℤ) (run : FieldRun) : Type 0 where
   pub study : Study b
   pub there : ChoicesThere l run
   pub held : choices_held (shape_of b) run.count (nth (choices_in l run)) ≡ true
+
+-- sizes that stand in the line, within their limits
+pub record SizesThere (l : List ℕ) (run : FieldRun) : Type 0 where
+  pub inside : 2 * (run.at + count_width * run.count) ≤ length l
+  pub right : SizesRight (choices_in l run)

@@ -6,6 +6,7 @@
 mod add_line;
 mod certify_line;
 mod clauses_line;
+mod dearest_line;
 mod explain_line;
 pub mod line;
 mod load_line;

@@ -5,8 +5,8 @@ ghost use Rattle.requests.specs.Answer.{requested, fitted, block_answer};
 ghost use Rattle.requests.specs.Wrote.{Answers, Asks};
 
 use crate::{
-    add_line, certify_line, clauses_line, explain_line, load_line, order_line, record_lines,
-    round_line, save_line, search_line, shift_line, tighten_line,
+    add_line, certify_line, clauses_line, dearest_line, explain_line, load_line, order_line,
+    record_lines, round_line, save_line, search_line, shift_line, tighten_line,
 };
 use lines::request::{Line, Request};
 use refusals::Refusal;
@@ -56,5 +56,6 @@ fn answer_request(line: &[u8], block: &mut Places, reply: &mut [u8], q: Request)
             p,
         ),
         Request::Record(p) => record_lines::answer_record(line, HeldStudy::known(block), reply, p),
+        Request::Dearest(p) => dearest_line::answer_dearest(line, reply, p),
     }
 }

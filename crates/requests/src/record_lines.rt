@@ -19,8 +19,8 @@ use tables::block::Block;
 use tables::held_study::HeldStudy;
 use units::Points;
 
-// The choices that stand in a line.
-fn choices_in(line: &[u8], run: FieldRun) -> ArrayVec<u64, { Block::TRAINS }>
+// The choices, or the sizes, that stand in a line.
+pub fn choices_in(line: &[u8], run: FieldRun) -> ArrayVec<u64, { Block::TRAINS }>
     requires { ChoicesThere line.now run }
     ensures { result.items ≡ choices_in line.now run }
 {

@@ -2,8 +2,8 @@
 -- A block's walk is that of its shape and its held costs, and the test is that of its published bound.
 use Rattle.std.specs.Prelude.{◌≡◌, Bool, true, false, cond, not, ◌&&◌, ◌||◌, List, ℕ, zero, suc, ◌+◌, ◌<◌, leb, eqb, ℤ, length, set, replicate}
 use Rattle.theory.specs.Sum.{sum}
-use Rattle.theory.specs.Product.{sum_of_products}
 use Rattle.theory.specs.Range.{all}
+use Rattle.theory.specs.Tries.{tries_of}
 use Rattle.units.specs.declared.Parts.{Parts}
 use Rattle.units.specs.Units.{the_parts, number_of_parts, rounded_up}
 use Rattle.tables.specs.Block.{max_trains, scale}
@@ -135,13 +135,9 @@ never total = false
 
 -- ---- how many tries there are
 
--- the tries of a walk over `left` trains from t on, by their sizes, with none dropped: a train's choices are tried once for each plan of the trains before it
-unfoldable pub tries_from : (ℕ → ℕ) → ℕ → ℕ → ℕ
-tries_from f left t = sum_of_products f t left
-
--- those of the whole walk
+-- those of a walk that drops none, by the sizes in the order of the walk: a train's choices are tried once for each plan of the trains before it
 abbrev pub all_tries : Shape → ℕ
-all_tries s = tries_from s.size s.trains 0
+all_tries s = tries_of s.trains s.size
 
 -- ---- the search of a block
 

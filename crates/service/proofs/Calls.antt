@@ -1,4 +1,4 @@
--- What a call answers, in the order of the tests: the buffer, the block, the line. No reply is longer than the longest one, and none but a saved line or a plan record is longer than the smallest buffer.
+-- What a call answers, in the order of the tests: the buffer, the block, the line. No reply is longer than the longest one, and none but a saved line, a plan record or the line of a dearest study is longer than the smallest buffer.
 use mathlib.Core.Path.{◌≡◌, refl}
 use mathlib.Core.Bool.{true, false}
 use mathlib.Core.List.{List}

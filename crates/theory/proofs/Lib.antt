@@ -3,6 +3,7 @@ pub mod Range
 pub mod First
 pub mod Sum
 pub mod Product
+pub mod Tries
 pub mod Whole
 pub mod Fold
 pub mod Turns

@@ -1,15 +1,18 @@
 -- Laws of finite sums. A claim about sums is stated with nothing subtracted, taken term by term, and handed to `omega`, to which each `sum ..` is one unknown.
 use mathlib.Core.Path.{◌≡◌, refl, sym, ap, ◌∙◌}
-use mathlib.Core.Bool.{cond}
-use mathlib.Core.Logic.{⊎_elim}
+use mathlib.Core.Bool.{cond, not}
+use mathlib.Core.Logic.{⊎_elim, dite}
 use Prim.Native.Nat.{ℕ, zero, suc, ◌+◌, ◌*◌, ◌<◌, ◌≤◌}
 use native.Mathlib.Nat.{add-mul, mul-add, mul-le-mul_left, mul-zero, mul_comm, zero-mul, suc-mul, eq-or-lt_of_le, le_of_suc-le-suc, mul-suc}
-use native.Mathlib.Decide.{ℕ_discrete}
+use native.Mathlib.Decide.{ℕ_discrete, dec_lt}
 use native.Mathlib.Numerals.{add-one}
 use native.Mathlib.Omega.{arith}
 use lib.Dec.{eqb}
-use borrow.Author.Tests.{eq-eqb, ne_eqb}
+use borrow.Author.Tests.{eq-eqb, ne_eqb, eqb-true, eqb-false, not-true, not-false}
+use Rattle.std.specs.Prelude.{Option, Some, None, unwrap_or}
+use Rattle.theory.specs.First.{first_passing}
 use Rattle.theory.specs.Sum.{sum, update}
+use Rattle.theory.proofs.First.{first_is, none_passes}
 
 -- a loop's first and next turn
 pub sum_none : (f : ℕ → ℕ) → sum 0 f ≡ 0
@@ -79,6 +82,19 @@ sum_part n i f h = omega (arith, sum_front (i + 1) n f (omega arith), sum_more i
 pub sum_terms : (n i k : ℕ) (f : ℕ → ℕ) → i < k → k < n → f i + f k ≤ sum n f
 sum_terms n i k f p h = omega (arith, sum_part n k f h, sum_term k i f p)
 
+-- so are two that are not the same one
+pub sum_apart : (n i k : ℕ) (f : ℕ → ℕ) → i < n → k < n → (i ≡ k → ⊥) → f i + f k ≤ sum n f
+sum_apart n i k f p q d =
+    dite (dec_lt i k) (λ (l : i < k). sum_terms n i k f l q) (λ m. omega (arith, sum_terms n k i f (omega (arith, d)) p))
+
+-- a sum that is 0 has 0 everywhere
+pub zero_terms : (n : ℕ) (f : ℕ → ℕ) → sum n f ≡ 0 → (i : ℕ) → i < n → f i ≡ 0
+zero_terms n f e i h = omega (arith, sum_term n i f h)
+
+-- a sum that is one of its terms has 0 in the others
+pub other_terms : (n k : ℕ) (f : ℕ → ℕ) → k < n → sum n f ≡ f k → (i : ℕ) → i < n → (i ≡ k → ⊥) → f i ≡ 0
+other_terms n k f h e i p d = omega (arith, sum_apart n i k f p h d, e)
+
 -- a weighted sum is at most the sum of the weights times the most that is weighed
 pub sum-weighted : (n h : ℕ) (w f : ℕ → ℕ) → ((i : ℕ) → i < n → f i ≤ h) → sum n (λ i. w i * f i) ≤ sum n w * h
 unfolding sum
@@ -140,6 +156,26 @@ pub sum_pick : (n j v : ℕ) → j < n → sum n (λ i. cond (eqb j i) v 0) ≡ 
 sum_pick n j v h =
     let e : cond (eqb j j) v 0 ≡ v = rw (eq-eqb j j refl) in
     omega (arith, sum_one n j (λ i. cond (eqb j i) v 0) (λ i. 0) h (λ i l d. rw (ne_eqb j i (λ s. d (sym s)))), sum-zero n, e)
+
+-- and back: where the others are 0, the sum is that term
+pub sole_term : (n k : ℕ) (f : ℕ → ℕ) → k < n → ((i : ℕ) → i < n → (i ≡ k → ⊥) → f i ≡ 0) → sum n f ≡ f k
+sole_term n k f h z = omega (arith, sum_one n k f (λ i. 0) h z, sum-zero n)
+
+-- the first term that is not 0
+abbrev pub first_nonzero : ℕ → (ℕ → ℕ) → ℕ
+first_nonzero n f = unwrap_or (first_passing n (λ i. not (eqb (f i) 0))) 0
+
+-- in a sum that is 1 it is 1
+pub nonzero_is_1 : (n : ℕ) (f : ℕ → ℕ) → sum n f ≡ 1 → (first_nonzero n f < n) × (f (first_nonzero n f) ≡ 1)
+nonzero_is_1 n f e = go (first_passing n (λ i. not (eqb (f i) 0))) refl
+  where
+    go : (o : Option ℕ) → first_passing n (λ i. not (eqb (f i) 0)) ≡ o → (unwrap_or o 0 < n) × (f (unwrap_or o 0) ≡ 1)
+    go (Some k) q =
+        let w = first_is n (λ i. not (eqb (f i) 0)) k q in
+        (w.there, omega (arith, eqb-false (f k) 0 (not-true (eqb (f k) 0) w.passes), sum_term n k f w.there, e))
+    go None q =
+        let z = sum_cong n f (λ i. 0) (λ i h. eqb-true (f i) 0 (not-false (eqb (f i) 0) (none_passes n (λ j. not (eqb (f j) 0)) q i h))) in
+        absurd (omega (arith, e, z, sum-zero n))
 
 -- ---- runs of equal parts
 

@@ -1,7 +1,6 @@
 -- The laws of the crate: one file for each idea.
 pub mod Spared
 pub mod Sums
-pub mod OneTerm
 pub mod Rewritten
 pub mod Plans
 pub mod Whole

@@ -7,13 +7,12 @@ use native.Mathlib.Nat.{mul-add, zero-mul, le_antisymm, le_of_mul-le-mul_left}
 use native.Mathlib.Decide.{ℕ_discrete}
 use native.Mathlib.Omega.{arith}
 use Rattle.theory.specs.Sum.{sum}
-use Rattle.theory.proofs.Sum.{sum_cong, sum-scale, sum-zero}
+use Rattle.theory.proofs.Sum.{sum_cong, sum_apart, zero_terms, other_terms, sole_term, sum-scale, sum-zero, first_nonzero, nonzero_is_1}
 use Rattle.tables.specs.Plans.{Costs, Shape, IsPlan, choice_total, pair_total, total}
 use Rattle.tables.proofs.Plans.{Shaped, constant_at_most_total}
 use Rattle.certificates.specs.Certify.{Weights, over_choices, over_pairs, weighted}
 use Rattle.certificates.proofs.Agrees.{Agrees}
 use Rattle.weights.specs.Weights.{Spares}
-use Rattle.weights.proofs.OneTerm.{sum_apart, zero_terms, other_terms, sole_term, first_nonzero, nonzero_is_1}
 
 -- all of W stands on the choices of x
 pub record Whole (s : Shape) (w : Weights) (x : ℕ → ℕ) : Type 0 where

@@ -1,6 +1,6 @@
 -- Each request has its function, and its case of the definition; a fixed reply fits.
 use mathlib.Core.Path.{refl}
-use Rattle.requests.proofs.Ready.{study_ready, load_ready, add_ready, shift_ready, certify_ready, search_ready, clauses_ready, explain_ready, order_ready, screen_ready, planner_ready, plan_ready}
+use Rattle.requests.proofs.Ready.{study_ready, load_ready, add_ready, shift_ready, certify_ready, search_ready, clauses_ready, explain_ready, order_ready, screen_ready, planner_ready, plan_ready, dearest_ready}
 use Rattle.requests.proofs.line.answer_request.Goals as goal
 
 pub answer_load-requires : goal.answer_load-requires
@@ -56,3 +56,6 @@ known-requires-in-Record c = study_ready (rw c.in-Record.is at c.requires) refl
 
 pub answer_record-requires : goal.answer_record-requires
 answer_record-requires c = let a = rw c.in-Record.is at c.requires in rw c.known-in-Record.ensures (a.fits, plan_ready a)
+
+pub answer_dearest-requires : goal.answer_dearest-requires
+answer_dearest-requires c = let a = rw c.in-Dearest.is at c.requires in (a.fits, dearest_ready a)
