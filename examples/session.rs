@@ -3,7 +3,7 @@
 use std::io::{self, Write};
 
 const BLOCK_NUMBERS: usize = 6676;
-const REPLY_BYTES: usize = 72;
+const REPLY_BYTES: usize = 74;
 
 const LINES: [&str; 4] = [
     "010200010202000002000000000000000000010001000001000000000003000002",

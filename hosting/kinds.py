@@ -17,6 +17,11 @@ DECLINED = 0xFF
 BUFFER_TOO_SMALL = 17
 NO_PLAN = 0xFF
 
+# What a line over train radio and the reply to it have more: 40, hexadecimal, in their kind, where that is not FF, and at their end a byte that
+# takes the sum of all their bytes to 0, modulo 256.
+RADIO_ADDED = 0x40
+RADIO_SUM_WIDTH = 1
+
 # The widths of fields in bytes, as document 01 gives them.
 KIND_WIDTH = 1
 COUNT_WIDTH = 1
@@ -62,6 +67,10 @@ class Fields:
     def left(self, width: int) -> int:
         """How many numbers of this width are left."""
         return (len(self._bytes) - self._at) // width
+
+    def adds_up(self) -> bool:
+        """Whether the sum of all bytes is 0, modulo 256."""
+        return sum(self._bytes) % 256 == 0
 
 
 class Form(NamedTuple):
@@ -290,6 +299,26 @@ def replies_to(kind: int | None) -> dict[int, Form]:
     return {**REPLIES, LOAD: form} if form else REPLIES
 
 
+def plain_line(line: bytes) -> bytes | None:
+    """A line over train radio without its two additions, be its sum right or wrong; None where the line is in no such form."""
+    if not FRAME.fullmatch(line) or Fields(line).number(KIND_WIDTH) - RADIO_ADDED not in LINES:
+        return None
+    return _without_additions(line, RADIO_ADDED)
+
+
+def plain_reply(reply: bytes) -> bytes | None:
+    """The reply to a line over train radio without its two additions. None where it has none, as with 3 and 16, by its sum."""
+    if not FRAME.fullmatch(reply) or not Fields(reply).adds_up():
+        return None
+    kind = Fields(reply).number(KIND_WIDTH)
+    return None if kind < RADIO_ADDED else _without_additions(reply, 0 if kind == DECLINED else RADIO_ADDED)
+
+
+def _without_additions(text: bytes, added: int) -> bytes:
+    kind, fields = text[:2 * KIND_WIDTH], text[2 * KIND_WIDTH:-2 * RADIO_SUM_WIDTH]
+    return b"%02X" % (int(kind, 16) - added) + fields
+
+
 # The README's table of refusals, column 'When', in ASCII. What the header says of lengths is filled in by `reason`.
 REFUSALS: dict[int, str] = {
     1: "the line is empty, has an odd count of characters or one that is not 0-9 or A-F",
@@ -316,6 +345,7 @@ REFUSALS: dict[int, str] = {
     22: "a record's n or a choice is not the block's",
     23: "a record's cost is not its plan's total in loaded costs, its bound is above that, or the plan has a forbidden entry",
     24: "the sum of the products of the first 1, 2, up to n sizes exceeds 10,000,000",
+    25: "the sum of all bytes of a line over train radio, carried round at 256, is not 0",
 }
 
 

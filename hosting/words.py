@@ -23,12 +23,13 @@ FORBIDDEN = -1
 def log(header: Header, lines: Iterable[Stored], as_json: bool = False) -> Iterator[str]:
     """A line of text, or of JSON, for each stored line, in the order given."""
     for stored in lines:
-        request, answer = _read(stored.line, kinds.LINES), _answer(stored.line, stored.reply, header)
+        request, answer = _request(stored.line), _answer(stored.line, stored.reply, header)
         if as_json:
             texts = {"line": _text(stored.line), "reply": _text(stored.reply)}
             yield json.dumps({**stored._asdict(), **texts, "request": request, "answer": answer})
         else:
-            yield f"{stored.number}  {stored.time}  {request['words']}  ->  {answer['words']}"
+            by_radio = ", by radio" if request["radio"] else ""
+            yield f"{stored.number}  {stored.time}  {request['words']}{by_radio}  ->  {answer['words']}"
 
 
 def _text(line: bytes) -> str:
@@ -56,12 +57,21 @@ def _read(text: bytes, forms: dict[int, Form]) -> Facts:
     return {"kind": kind, "name": form.name, **facts, "words": form.words(facts)}
 
 
+def _request(line: bytes) -> Facts:
+    """What a line asks, and whether it came over train radio; then its kind is that of its plain form."""
+    plain = kinds.plain_line(line)
+    return {**_read(plain or line, kinds.LINES), "radio": plain is not None}
+
+
 def _answer(line: bytes, reply: bytes, header: Header) -> Facts:
-    """What a line's reply says; an empty one is number 17, which writes nothing."""
+    """What a line's reply says, and whether in the form for train radio; an empty one is number 17, which writes nothing."""
     if reply == b"":
-        return _declined(kinds.BUFFER_TOO_SMALL, header)
-    facts = _read(reply, kinds.replies_to(_kind(line)))
-    return _declined(facts["number"], header) if "number" in facts else facts
+        return {**_declined(kinds.BUFFER_TOO_SMALL, header), "radio": False}
+    asked = kinds.plain_line(line)
+    plain = kinds.plain_reply(reply) if asked else None
+    facts = _read(plain or reply, kinds.replies_to(_kind(asked or line)))
+    said = _declined(facts["number"], header) if "number" in facts else facts
+    return {**said, "radio": plain is not None}
 
 
 def _declined(number: int, header: Header) -> Facts:

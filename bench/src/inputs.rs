@@ -9,6 +9,7 @@ use reference::lines::{digits, put, CLAUSES};
 use reference::model::{self, Cost, Costs, Pair, Study, BLOCK_LENGTH, ORDER};
 use reference::operations::{self, Certificate};
 use reference::orders::order_fields;
+use reference::radio::second_form;
 use reference::random::Random;
 use reference::record_lines::{read_fields, true_record, write_fields, PLANNER, SCREEN};
 use reference::rewriting::Rewriting;
@@ -53,8 +54,8 @@ impl Input {
     }
 }
 
-/// Every kind of line and some that are refused, on the small and on the full study, a search also in their turned order; some
-/// lines in steps of the tariff, on these and on a full study in steps of 5.
+/// Every kind of line and some that are refused, on the small and on the full study, a search also in their turned order, and a
+/// load, a tightening and a search by radio; some lines in steps of the tariff, on these and on a full study in steps of 5.
 pub fn short_inputs() -> Vec<Input> {
     let small = held_study(SMALL_LOAD.as_bytes());
     let full = full_study(SEED, 1_000_000, 1);
@@ -102,14 +103,19 @@ fn inputs_of(size: &str, study: &Study, clauses: Vec<u8>) -> Vec<Input> {
     let of_clauses = block_of(&held_study(&clauses));
     let load = line_of(&load_fields(study));
     let longest = line_of(&load_fields(&full_study(SEED, 1_000_000, 1)));
+    // A byte 00 more keeps the sum; another one doesn't.
+    let wrong_sum = [&by_radio(&longest[..longest.len() - 2]), &b"01"[..]].concat();
     let rows = [
         ("load", &held, load.clone(), "81"),
+        ("load-radio", &held, by_radio(&load), "C1"),
         ("load-on-fresh", &fresh, load, "81"),
         ("add", &held, add_line(study, 1), "82"),
         ("shift", &held, shift_line(study), "83"),
         ("tighten", &held, b"04".to_vec(), "84"),
+        ("tighten-radio", &held, by_radio(b"04"), "C4"),
         ("certify", &held, certify_line(study), "85"),
         ("search", &held, search_line(SMALL_BUDGET), SEARCH_REPLY),
+        ("search-radio", &held, by_radio(&search_line(SMALL_BUDGET)), "C6"),
         ("search-turned", &held_turned, search_line(SMALL_BUDGET), SEARCH_REPLY),
         ("save", &held, b"07".to_vec(), "01"),
         ("round", &held, b"08".to_vec(), "88"),
@@ -124,6 +130,7 @@ fn inputs_of(size: &str, study: &Study, clauses: Vec<u8>) -> Vec<Input> {
         ("refused-cost", &held, with_end(&longest, b"FFFFFE"), "FF07"),
         ("refused-kind", &held, b"10".to_vec(), "FF03"),
         ("refused-tries", &held, line_of(&size_fields(&[8; 24])), "FF18"),
+        ("refused-sum", &held, wrong_sum, "FF19"),
     ];
     let input = |(name, block, line, reply): (&str, &Vec<i64>, Vec<u8>, &'static str)| Input {
         name: format!("{name}-{size}"),
@@ -255,6 +262,11 @@ fn dearest_line(study: &Study) -> Vec<u8> {
     };
     let mut taken = all.clone().map(sizes).filter(|sizes| tries(sizes) <= MOST_TRIES);
     line_of(&size_fields(&taken.next().expect("ones and the last size are few")))
+}
+
+/// The line in its second form.
+fn by_radio(line: &[u8]) -> Vec<u8> {
+    second_form(line).expect("a kind that there is, within the limit")
 }
 
 fn search_line(budget: i64) -> Vec<u8> {

@@ -3,7 +3,7 @@
 use crate::inputs::{self, Input};
 use crate::services;
 use crate::timing::{compare, times, Rounds};
-use reference::lines::LONGEST_LINE;
+use reference::lines::{LONGEST_LINE, LONGEST_LOAD};
 use std::error::Error;
 
 /// How often each service is timed, in turn, for a row of the first table.
@@ -44,8 +44,9 @@ fn print_conditions() {
          small: document 01's J, 2 trains of 2 choices, 1 pair. full: 24 trains of 8 choices, 48 pairs, seed {},\n\
          costs to 1000000. Search: budget {}; turned, and the order: the last train first. Screen, planner and\n\
          record: of each train's last choice. Refused: a wrong character, or a cost too high, at the very end\n\
-         of a load of {LONGEST_LINE} characters; a kind 10; 24 trains of 8 choices, whose tries are too many.\n\
-         Save: a reply of {LONGEST_LINE} characters for the full study. Dearest: of J's sizes; of 17 trains of one\n\
+         of a load of {LONGEST_LOAD} characters; a kind 10; 24 trains of 8 choices, whose tries are too many; a\n\
+         wrong sum of {LONGEST_LINE} characters. Radio: the same load, tightening and search in their second form.\n\
+         Save: a reply of {LONGEST_LOAD} characters for the full study. Dearest: of J's sizes; of 17 trains of one\n\
          choice and 7 of 8.\n\
          Clauses: 3 over 2 trains; 500 over 24 trains that name 48 pairs. Steps: behind a tightening, so that\n\
          the bound is above 0; fives: as full, all costs being multiples of 5.\n\

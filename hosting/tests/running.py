@@ -9,7 +9,7 @@ import tempfile
 import time
 import unittest
 from pathlib import Path
-from typing import Callable
+from typing import Callable, Collection
 
 from hosting import checks, library, store
 from hosting.records import Address, Settings
@@ -35,11 +35,14 @@ def long_search(budget: int) -> tuple[bytes, bytes]:
     return b"06%08X\n" % budget, b"8600%08X%012X" % (budget, 24) + b"00" * 24 + b"\n"
 
 
-def free_port() -> int:
-    """A port that nobody listens on."""
-    with socket.socket() as probe:
-        probe.bind((LOOPBACK, 0))
-        return probe.getsockname()[1]
+def free_port(taken: Collection[int] = ()) -> int:
+    """A port that nobody listens on, and none of these. The system may name a port twice, until somebody listens on it."""
+    while True:
+        with socket.socket() as probe:
+            probe.bind((LOOPBACK, 0))
+            port = probe.getsockname()[1]
+        if port not in taken:
+            return port
 
 
 def until(holds: Callable[[], bool], what: str) -> None:
@@ -73,7 +76,7 @@ class Running:
 
     def add(self, name: str) -> None:
         """Adds a study at a free port. One whose name begins with crlf has lines and replies that end in CR LF."""
-        self.ports[name] = free_port()
+        self.ports[name] = free_port(self.ports.values())
         store.create(self.data, Settings(name, Address(LOOPBACK, self.ports[name], ""), name.startswith("crlf")))
 
     def add_socket(self, path: Path) -> None:

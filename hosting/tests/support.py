@@ -81,6 +81,14 @@ size_t junction_answer(const uint8_t *line, size_t line_length, int64_t *block, 
 """
 
 
+def by_radio(line: bytes) -> bytes:
+    """The form of a line for train radio (document 02, change 14): its kind has 40 added, hexadecimal, and at its end stands the byte that takes
+    the sum of all bytes to 0, modulo 256."""
+    kind, *fields = bytes.fromhex(line.decode())
+    front = bytes([kind + 0x40, *fields])
+    return bytes([*front, -sum(front) % 256]).hex().upper().encode()
+
+
 def reference(lines: list[bytes]) -> list[bytes]:
     """The replies of the reference to lines, from a fresh block."""
     if not REFERENCE.exists():

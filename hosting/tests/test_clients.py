@@ -43,7 +43,7 @@ class ClientsTest(HostTest):
         self.verified(self.host, "long")
 
     def test_longest_line_and_the_next(self) -> None:
-        self.assertEqual(self.host.session("limit", b"0" * 19_834 + b"\n" + b"0" * 19_835 + b"\n"), b"FF03\n" + TOO_LONG)
+        self.assertEqual(self.host.session("limit", b"0" * 19_836 + b"\n" + b"0" * 19_837 + b"\n"), b"FF03\n" + TOO_LONG)
 
     def test_half_closed(self) -> None:
         self.assertEqual(self.host.session("half", WORKED_LINES.removesuffix(b"\n")), WORKED_REPLIES)

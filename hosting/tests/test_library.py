@@ -14,7 +14,7 @@ from hosting.tests.support import DataCase
 
 class Headers(unittest.TestCase):
     def test_the_header_says_the_lengths_of_document_01(self) -> None:
-        self.assertEqual(header.read(support.ROOT / "include/junction.h"), Header(6676, 72, 19834, 19834))
+        self.assertEqual(header.read(support.ROOT / "include/junction.h"), Header(6676, 74, 19836, 19836))
 
     def test_a_length_is_a_number_or_the_name_of_another(self) -> None:
         text = "#define JUNCTION_BLOCK_NUMBERS 1\n#define JUNCTION_REPLY_BYTES 2\n#define JUNCTION_LINE_CHARACTERS 3\n"
@@ -45,14 +45,17 @@ class Answers(DataCase):
 
     def test_the_longest_reply_comes_whole(self) -> None:
         load = support.full_load()
-        self.assertEqual(len(load), self.library.header.line_characters)
-        _, block = self.library.answer(self.library.fresh(), load)
-        self.assertEqual(self.library.answer(block, b"07"), (load, block))
+        longest = support.by_radio(load)
+        self.assertEqual(len(longest), self.library.header.line_characters)
+        for sent, save in ((load, b"07"), (longest, support.by_radio(b"07"))):
+            _, block = self.library.answer(self.library.fresh(), sent)
+            self.assertEqual(self.library.answer(block, save), (sent, block))
 
     def test_lines_of_any_bytes_and_any_length(self) -> None:
         fresh = self.library.fresh()
         longest = self.library.header.line_characters
-        cases = {b"": b"FF01", b"04\x0004": b"FF01", b"\xff\xfe": b"FF01", b"0" * (longest + 1): b"FF02", b"0" * longest: b"FF03", b"04": b"FF04"}
+        cases = {b"": b"FF01", b"04\x0004": b"FF01", b"\xff\xfe": b"FF01", b"0" * (longest + 1): b"FF02", b"0" * longest: b"FF03", b"04": b"FF04",
+                 b"44BC": b"FF04FD", b"44": b"FF19E8"}
         for line, reply in cases.items():
             with self.subTest(line=line[:8], length=len(line)):
                 self.assertEqual(self.library.answer(fresh, line), (reply, fresh))

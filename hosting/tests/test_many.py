@@ -13,9 +13,9 @@ CLIENTS_PER_STUDY = 4
 LINES_PER_CLIENT = 150
 # How many lines each client of a study sends ahead of their replies: a planner waits for each reply, a program for none.
 AHEAD = (1, 1, 20, LINES_PER_CLIENT)
-# What the replies begin with, so that lines of every kind are seen to be accepted, and the reasons that must be among them.
-ACCEPTED = (b"81", b"82", b"83", b"84", b"85", b"86", b"01", b"88")
-REASONS = (b"FF01", b"FF02", b"FF03", b"FF05", b"FF0A", b"FF0C", b"FF0E")
+# What the replies begin with, so that lines of every kind are seen to be accepted, by radio too, and the reasons that must be among them.
+ACCEPTED = (b"81", b"82", b"83", b"84", b"85", b"86", b"01", b"88", b"C1", b"C2", b"C3", b"C4", b"C5", b"C6", b"41", b"C8")
+REASONS = (b"FF01", b"FF02", b"FF03", b"FF05", b"FF0A", b"FF0C", b"FF0E", b"FF19")
 OFTEN = 10
 
 
@@ -41,7 +41,7 @@ class ManyTest(HostTest):
                 stored = host.stored(name)
                 self.assertEqual([len(client.received) for client in clients[name]], [LINES_PER_CLIENT] * CLIENTS_PER_STUDY)
                 self.assertEqual(shares(stored, clients[name]), {(LINES_PER_CLIENT,) * CLIENTS_PER_STUDY})
-                replies.update(reply if reply.startswith(b"FF") else reply[:2] for _, reply in stored)
+                replies.update(reply[:4] if reply.startswith(b"FF") else reply[:2] for _, reply in stored)
                 self.verified(host, name)
                 self.assertEqual([reply for _, reply in stored], support.reference([line for line, _ in stored]))
         for reply in (*ACCEPTED, *REASONS):

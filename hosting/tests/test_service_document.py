@@ -57,7 +57,7 @@ class Sessions(unittest.TestCase):
 
     def test_every_kind_is_shown(self) -> None:
         kinds = {line[:2] for session in self.SESSIONS for line in session.lines}
-        self.assertLessEqual({b"%02X" % kind for kind in (*range(1, 9), *range(0x0A, 0x10))}, kinds)
+        self.assertLessEqual({b"%02X" % kind for kind in (*range(1, 9), *range(0x0A, 0x10), 0x41, 0x42, 0x44, 0x46, 0x47, 0x4C, 0x4E)}, kinds)
 
     def test_a_reply_without_its_line_is_no_session(self) -> None:
         for text in ("< 84\n", "> 04\n", "> 04\n< 84\nmore\n"):

@@ -97,6 +97,55 @@ class Log(unittest.TestCase):
         self.assertEqual(in_words("0F 00", "FF 06").split("  ->")[0], "dearest study of 0 trains, sizes")
         self.assertEqual(in_words("0F 02 02", "FF 05").split("  ->")[0], "dearest, cut short")
 
+    def test_lines_over_train_radio(self) -> None:
+        load, record = "load 2 trains, scale 1, sizes 2 2, 1 pair", "record of choices 0 1, bound 2 points, cost 2 points"
+        dearest = "load 2 trains, scale 1, sizes 2 2, 0 pairs"
+        loaded = "410200010202000002000000000000000000010001000001000000000003000002AE"
+        for line, reply, request, answer in [
+            (loaded, "C10000000000000000000000003F", load, "constant 0 parts, bound 0 points"),
+            ("4200010000FAC3", "C20000000000020000000000023A", "add 250 points to train 0, choice 1", "constant 2 parts, bound 2 points"),
+            ("43000000000000BD", "FF05FC", "shift by 1 lifts and moves, 0 of them not 0", f"declined, 5: {kinds.REFUSALS[5]}"),
+            ("44BC", "C400000000000200000000000238", "tighten", "constant 2 parts, bound 2 points"),
+            ("45000001000001000000000000000001000000000001000000000000B7", "C501000000000000000200000137", "certify by 8 weights with W = 1", "ceiling 2/1 parts, reached"),
+            ("460000000AB0", "C60100000003000000000002000133", "search by at most 10 tries", "ended after 3 tries: plan 0 1 costs 2 points"),
+            ("47B9", loaded, "save", f"saved, to {load}"),
+            ("48B8", "C800000000000200000000000234", "round", "constant 2 parts, bound 2 points"),
+            ("4902000100030102000005FF00000002FE01000001A8", "C900000000000000000000000037", "load 2 trains, scale 1, by 3 clauses", "constant 0 parts, bound 0 points"),
+            ("4A000000000005B1", "CA00FF37", "explain train 0, choice 0, against 5 points", "not out"),
+            ("4B0100B4", "CB010034", "order 1 0", "order 1 0"),
+            ("4C020001000000000002000000000002AD", "CC02000131", f"screen reads {record}", "choices 0 1"),
+            ("4D020001000000000002000000000002AC", "CD0200010000000000020000000000022C", f"planner reads {record}", record),
+            ("4E0001B1", "CE0200010000000000020000000000022B", "record choices 0 1", record),
+            ("4F020202AB", "41020001020200000000000000000100000100B6", "dearest study of 2 trains, sizes 2 2", f"the dearest study: {dearest}"),
+        ]:
+            self.assertEqual(in_words(line, reply), f"{request}, by radio  ->  {answer}")
+
+    def test_wrong_sums(self) -> None:
+        declined = f"declined, 25: {kinds.REFUSALS[25]}"
+        self.assertEqual(in_words("44BD", "FF19E8"), f"tighten, by radio  ->  {declined}")
+        self.assertEqual(in_words("44", "FF19E8"), f"tighten, by radio  ->  {declined}")
+        self.assertEqual(in_words("46000AB1", "FF19E8"), f"search, cut short, by radio  ->  {declined}")
+
+    def test_plain_replies_to_lines_over_train_radio(self) -> None:
+        self.assertEqual(in_words("44BC", "FF03"), "tighten, by radio  ->  declined, 3: there is no such kind")
+        self.assertEqual(in_words("44BC", "FF10").split("->  ")[1], f"declined, 16: {kinds.REFUSALS[16]}")
+        self.assertIn("declined, 17: ", in_words("44BC", ""))
+        for reply, said in (("00", "kind 00"), ("3FC1", "kind 3F"), ("C4", "kind C4"), ("C400000000000238", "kind C4"), ("C43C", "bound, cut short")):
+            self.assertEqual(in_words("44BC", reply).split("->  ")[1], said)
+
+    def test_what_is_not_over_train_radio(self) -> None:
+        for line in ("40C0", "50B0", "8A76"):
+            self.assertEqual(in_words(line, "FF03"), f"kind {line[:2]}  ->  declined, 3: there is no such kind")
+        self.assertEqual(in_words("44bc", "FF01").split("  ->")[0], "not digits by two, 4 characters")
+        self.assertEqual(in_words("04", "C43C"), "tighten  ->  kind C4")
+
+    def test_json_says_what_came_over_train_radio(self) -> None:
+        for line, reply, facts in (("44BC", "FF04FD", (4, True, True)), ("44BC", "FF03", (4, True, False)), ("44BC", "", (4, True, False)),
+                                   ("04", "FF04", (4, False, False)), ("0", "FF01", (None, False, False))):
+            entry = json.loads(next(words.log(HEADER, [Stored(1, TIME, "", digits(line), digits(reply), "")], as_json=True)))
+            self.assertEqual((entry["request"]["kind"], entry["request"]["radio"], entry["answer"]["radio"]), facts)
+            self.assertEqual((entry["line"], entry["reply"], entry["answer"]["kind"]), (line, reply, 255))
+
     def test_a_load_line_says_what_it_is_for_by_the_line_that_it_answers(self) -> None:
         reply = "01 01 0001 01 000001 00"
         for line in ("04", "0G", "0", ""):
@@ -137,7 +186,7 @@ class Tables(unittest.TestCase):
     README = (support.ROOT / "README.md").read_text(encoding="utf-8")
 
     def test_refusals(self) -> None:
-        rows = re.findall(r"^\| (\d+) \| (?:`FF..`|none) \| ([^|]+) \|", self.README, re.MULTILINE)
+        rows = re.findall(r"^\| (\d+) \| (?:`FF..(?:..)?`|none) \| ([^|]+) \|", self.README, re.MULTILINE)
         self.assertGreaterEqual(len(rows), 18)
         for number, when in rows:
             self.assertEqual(kinds.reason(int(number), HEADER), when.replace("`", "").replace("−", "-"), number)
@@ -237,6 +286,18 @@ class Show(unittest.TestCase):
         self.take("06 0000000A")
         self.take("0F 03 020304")
         self.assertEqual((self.facts()["sizes"], self.facts()["last_plan"]["line"]), ([2], 2))
+
+    def test_lines_over_train_radio_count_as_plain_ones(self) -> None:
+        for line in (HALVES, "04", "05 000002 000001000001 000001000001 000001000000000000000001", "06 0000000A", "07"):
+            self.take(support.by_radio(digits(line)).decode())
+        self.assertIn("plan 0 0 costs 1 point, and no plan costs less (line 4)", self.text())
+        self.assertIn("8/2 parts, in points 2, not reached (line 3)", self.text())
+        self.take("42 00 00 000001 BD")
+        self.assertEqual((self.facts()["last_plan"]["added_since"], self.facts()["last_ceiling"]["added_since"]), (6, 6))
+        self.take(support.by_radio(b"0F0202" b"02").decode())
+        self.assertEqual(self.facts()["last_plan"]["line"], 4)
+        self.take(support.by_radio(digits(CLOSED_CHOICE)).decode())
+        self.assertEqual((self.facts()["sizes"], self.facts()["last_plan"]), ([2], None))
 
     def test_a_load_forgets_plan_and_ceiling(self) -> None:
         self.take("01 01 0001 01 000002 00")

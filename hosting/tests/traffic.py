@@ -11,6 +11,7 @@ from typing import NamedTuple
 
 from hosting import store
 from hosting.records import Address, Settings
+from hosting.tests import support
 from hosting.tests.running import PATIENCE, WORKED_LINES, Running
 
 Streams = tuple[asyncio.StreamReader, asyncio.StreamWriter]
@@ -19,7 +20,7 @@ FORBIDDEN = 0xFFFFFF
 COST_WIDTH = 3
 MOVE_WIDTH = 6
 # Document 01's reasons 1, 2, 3, 5, 6, 7, 8, 9 and 15, as far as a line alone can have them.
-DECLINED = [b"", b"0", b"0g", b"04 ", b"0" * 19_835, b"FF", b"0400", b"0100", b"01010001010F4241", b"0101000101000000010000", b"02FF00000001",
+DECLINED = [b"", b"0", b"0g", b"04 ", b"0" * 19_837, b"FF", b"0400", b"0100", b"01010001010F4241", b"0101000101000000010000", b"02FF00000001",
             b"0600000000"]
 
 
@@ -58,7 +59,14 @@ class Writer:
         """So many lines."""
         kinds = {self._load: 8, self._add: 20, self._shift: 15, self._tighten: 12, self._certify: 10, self._search: 15, self._save: 5,
                  self._round: 5, self._declined: 5, self._example: 5}
-        return [kind() for kind in self._chosen.choices(list(kinds), list(kinds.values()), k=count)]
+        return [self._sent(kind()) for kind in self._chosen.choices(list(kinds), list(kinds.values()), k=count)]
+
+    def _sent(self, line: bytes) -> bytes:
+        """A line as it is sent: of those that have a kind every fourth by radio, and every tenth of these with two characters dropped."""
+        if line in DECLINED or self._chosen.random() < 0.75:
+            return line
+        sent = support.by_radio(line)
+        return sent if self._chosen.random() < 0.9 else sent[:-4] + sent[-2:]
 
     def _load(self) -> bytes:
         scale, sizes, pairs = self._shape

@@ -10,6 +10,7 @@ const SPARE: usize = 16;
 const MODULUS: u64 = 4_294_967_291;
 
 /// The block that a call is given.
+#[derive(Clone)]
 pub enum Setting {
     /// As the call before left it.
     AsLeft,
@@ -34,19 +35,21 @@ pub struct Outcome {
 }
 
 impl Call {
-    /// Runs the call; `held` is the block from call to call.
-    pub fn run(&self, service: Service, held: &mut [i64]) -> Outcome {
-        if let Setting::Edited(edits) = &self.setting {
-            for &(place, value) in edits {
-                held[place] = value;
-            }
-        }
-        let length = match self.setting {
-            Setting::Length(length) => length,
-            _ => BLOCK_LENGTH,
-        };
+    /// The block that the call is given; `held` is the block from call to call.
+    pub fn given(&self, held: &[i64]) -> Vec<i64> {
         let mut block = held.to_vec();
-        block.resize(length, 0);
+        match &self.setting {
+            Setting::AsLeft => {}
+            Setting::Edited(edits) => edits.iter().for_each(|&(place, value)| block[place] = value),
+            Setting::Length(length) => block.resize(*length, 0),
+        }
+        block
+    }
+
+    /// Runs the call, and keeps what it leaves unless its block was a copy.
+    pub fn run(&self, service: Service, held: &mut [i64]) -> Outcome {
+        let mut block = self.given(held);
+        let length = block.len();
         block.resize(length + SPARE, -1);
         let mut buffer = vec![FILLING; self.capacity + SPARE];
         let written = service(&self.line, &mut block[..length], &mut buffer[..self.capacity]);

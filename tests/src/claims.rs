@@ -1,7 +1,8 @@
 //! The claims of "Lists and the ledger", of saves, of rounds, of forbidden entries, of stopping at the bound, of clauses, of
 //! reasons, of bounds in steps, of orders, of records and of dearest studies, checked from the outside by every plan of small
-//! studies.
+//! studies. "Lists of lines hold every kind in either form": the additions are removed from line and reply first.
 
+use crate::asked::Asked;
 use crate::dearest::Dearest;
 use crate::generator::{Reach, Session};
 use crate::lines;
@@ -9,18 +10,22 @@ use crate::literals::{Literals, Text};
 use crate::model::{Cost, Costs, Pair, Study, BLOCK_LENGTH, FORBIDDEN};
 use crate::multiples::{Multiples, Tariff};
 use crate::orders::Orders;
+use crate::radio::Exchange;
 use crate::random::Random;
 use crate::rewriting::Rewriting;
 use crate::rooms::Rooms;
 use crate::saves::Saves;
+use crate::second_forms::SecondForms;
 use crate::stops::Stops;
-use crate::taken::{Asked, Taken};
+use crate::taken::Taken;
 use crate::Service;
 
 /// How often each claim was put to the test.
 #[derive(Default, Debug)]
 pub struct Tally {
     pub calls: usize,
+    /// Of these, second forms that are accepted.
+    pub by_radio: usize,
     pub bounds: usize,
     /// Accepted shifts whose constant is below the one before.
     pub falls: usize,
@@ -44,6 +49,7 @@ pub struct Tally {
     pub rooms: Rooms,
     pub dearest: Dearest,
     pub saves: Saves,
+    pub second_forms: SecondForms,
 }
 
 /// How often a ceiling was put to the test.
@@ -405,10 +411,11 @@ pub fn demand(holds: bool, otherwise: &str) -> Result<(), String> {
     holds.then_some(()).ok_or_else(|| otherwise.into())
 }
 
-/// A call from the outside: its line, its reply, and the block before and after it.
+/// A call from the outside: its line and its reply, in plain form, and the block before and after it.
 struct Step<'a> {
     service: Service,
     capacity: usize,
+    by_radio: bool,
     line: &'a [u8],
     reply: &'a [u8],
     before: &'a [i64],
@@ -422,8 +429,8 @@ impl Step<'_> {
 
     /// The call as one that leaves the block, with its buffer.
     fn asked(&self) -> Asked<'_> {
-        let Step { service, capacity, line, reply, block, .. } = *self;
-        Asked { service, block, capacity, line, reply }
+        let Step { service, capacity, by_radio, line, reply, block, .. } = *self;
+        Asked { service, block, capacity, by_radio, line, reply }
     }
 
     /// What holds of the block, before anything is known of its costs.
@@ -468,6 +475,7 @@ impl Step<'_> {
         tally.taken.check_asked(&self.asked(), random)?;
         tally.dearest.check_asked(&self.asked(), random)?;
         tally.calls += 1;
+        tally.by_radio += usize::from(self.by_radio && accepted(self.reply));
         tally.falls += usize::from(self.reply.starts_with(b"83") && self.block[3] < self.before[3]);
         let Some(ledger) = ledger else { return Ok(()) };
         self.check_forbidden(ledger, &mut tally.forbidden)?;
@@ -536,11 +544,19 @@ pub fn check_session(service: Service, seed: u64, calls: usize, tally: &mut Tall
         let before = block.clone();
         let call = session.call(&block);
         let outcome = call.run(service, &mut block);
-        let (line, reply) = (&call.line[..], outcome.reply());
-        feed(&mut ledger, line, reply);
-        let step = Step { service, capacity: call.capacity, line, reply, before: &before, block: &block };
+        let Exchange { by_radio, line, reply } = Exchange::of(&call.line, outcome.reply());
+        feed(&mut ledger, &line, &reply);
+        let step = Step {
+            service,
+            capacity: call.capacity,
+            by_radio,
+            line: &line,
+            reply: &reply,
+            before: &before,
+            block: &block,
+        };
         step.check(ledger.as_ref(), &mut random, tally).map_err(|claim| {
-            let [line, reply] = [line, reply].map(String::from_utf8_lossy);
+            let [line, reply] = [&call.line, outcome.reply()].map(String::from_utf8_lossy);
             format!("session {seed}, call {number}: {claim}\nline {line}\nreply {reply}")
         })?;
     }

@@ -1,15 +1,15 @@
 //! Change 13: the dearest study of given sizes, and what is said of it, checked from the outside by loads and searches.
 
+use crate::asked::{check_calls, reply, Asked};
 use crate::calls::{Call, Setting};
 use crate::claims::{accepted, demand, Reader};
 use crate::clause_lines::{any_clauses, clause_fields};
 use crate::clauses::Clauses;
 use crate::dearest_lines::{size_fields, EXACT};
-use crate::generator::{line_of, load_fields, Reach, Session};
+use crate::generator::{line_of, load_fields};
 use crate::model::{self, Costs, Pair, Refusal, Study, BLOCK_LENGTH, FORBIDDEN, ORDER, TOP};
 use crate::random::Random;
 use crate::studies::{forbid, pairs, scale};
-use crate::taken::{reply, Asked};
 use crate::{Service, LEAST_BUFFER, LONGEST_REPLY};
 
 /// "That sum exceeds 10,000,000" is 24.
@@ -120,7 +120,7 @@ fn rewrite(random: &mut Random, block: &mut [i64]) {
 impl Dearest {
     /// A line and its reply, on any block: each line of kind 0F, and each search.
     pub(crate) fn check_asked(&mut self, asked: &Asked, random: &mut Random) -> Result<(), String> {
-        let Asked { service, block, capacity, line, reply: shown } = *asked;
+        let Asked { block, capacity, line, reply: shown, .. } = *asked;
         match (line.get(..2), shown) {
             (Some(b"0F"), [b'0', b'1', ..]) => self.check_line(asked, random),
             (Some(b"0F"), b"FF18") => {
@@ -129,8 +129,8 @@ impl Dearest {
             }
             (Some(b"0F"), []) if capacity >= LEAST_BUFFER => {
                 self.too_long += 1;
-                let longer = reply(service, line, block, LONGEST_REPLY)?;
-                demand(accepted(&longer) && longer.len() > capacity, "17 of a line that the buffer holds")
+                let longer = asked.reply(line, LONGEST_REPLY)?;
+                demand(accepted(&longer) && longer.len() > asked.room(), "17 of a line that the buffer holds")
             }
             (_, [b'8', b'6', ..]) => self.check_count(block, shown),
             _ => Ok(()),
@@ -229,7 +229,8 @@ impl Dearest {
         let block = &[0; BLOCK_LENGTH];
         let shown = reply(service, &line, block, LONGEST_REPLY)?;
         demand(accepted(&shown), "a line of kind 0F is declined")?;
-        let asked = Asked { service, block, capacity: LONGEST_REPLY, line: &line, reply: &shown };
+        let capacity = LONGEST_REPLY;
+        let asked = Asked { service, block, capacity, by_radio: false, line: &line, reply: &shown };
         self.check_line(&asked, random)
     }
 
@@ -252,18 +253,9 @@ impl Dearest {
 
     /// One session over studies of every size and blocks that no line makes: each line of kind 0F, and each search.
     pub fn check_session(&mut self, service: Service, seed: u64, calls: usize) -> Result<(), String> {
-        let mut session = Session::new(seed, Reach::Blocks);
-        let mut random = Random::new(!seed);
-        let mut block = vec![0; BLOCK_LENGTH];
-        for number in 0..calls {
-            let call = session.call(&block);
-            let outcome = call.run(service, &mut block);
-            let (line, reply) = (&call.line[..], outcome.reply());
-            let asked = Asked { service, block: &outcome.block, capacity: call.capacity, line, reply };
-            self.check_asked(&asked, &mut random)
-                .map_err(|claim| format!("session {seed} of dearest studies, call {number}: {claim}"))?;
-        }
-        Ok(())
+        check_calls(service, seed, calls, "dearest studies", |asked, _, random| {
+            self.check_asked(asked, random)
+        })
     }
 }
 

@@ -1,6 +1,6 @@
 //! Sessions of calls from a seed: every kind, every refusal, boundaries and damage.
 
-use crate::calls::{Call, Outcome, Setting};
+use crate::calls::{Call, Outcome, Setting, FILLING};
 use crate::clause_lines;
 use crate::dearest;
 use crate::dearest_lines::{self, few_tries};
@@ -8,6 +8,8 @@ use crate::lines::{self, LONGEST_LINE, MOVES};
 use crate::model::{self, Cost, Costs, Pair, Study, BLOCK_LENGTH, FORBIDDEN, HELD_ENTRIES, ORDER, TOP};
 use crate::operations::{self, Certificate, Shift};
 use crate::orders::{any_order, damaged, order_fields};
+use crate::radio::{self, Exchange, SUM_CHARACTERS};
+use crate::radio_lines;
 use crate::random::Random;
 use crate::reasons::beside;
 use crate::record_lines::{self, any_choices, true_record, PLANNER, SCREEN, WRITE};
@@ -84,23 +86,27 @@ impl Session {
     }
 
     /// A buffer's length: of a line of kind 07 mostly one beside the length of the study's load line, and of kinds 0C to 0F,
-    /// where a record or the dearest study's line is about as long as the least buffer or longer, beside that of its reply.
+    /// where a record or the dearest study's line is about as long as the least buffer or longer, beside that of its reply; by
+    /// radio beside those of both forms of the reply.
     fn capacity(&mut self, line: &[u8], study: Option<&Study>) -> usize {
+        let plain = radio::plain_form(line);
+        let added = if plain.is_some() { SUM_CHARACTERS } else { 0 };
+        let line = plain.as_deref().unwrap_or(line);
         let length = match (line.get(..2), study) {
             (Some(b"07"), Some(study)) => Some(2 * lines::saved(study).len()),
-            (Some(b"0C" | b"0D" | b"0E"), Some(study)) => {
-                Some(records::length(study.trains.len())).filter(|&length| length >= LEAST_BUFFER)
-            }
-            (Some(b"0F"), _) => dearest_lines::length(line).filter(|&length| length >= LEAST_BUFFER),
+            (Some(b"0C" | b"0D" | b"0E"), Some(study)) => Some(records::length(study.trains.len())),
+            (Some(b"0F"), _) => dearest_lines::length(line),
             _ => None,
         };
-        match length {
+        let saves = line.starts_with(b"07");
+        match length.map(|length| length + added).filter(|&length| saves || length >= LEAST_BUFFER) {
             Some(length) if self.random.chance(80) => {
-                self.random.pick(&[LEAST_BUFFER, length - 1, length, length + 1, LONGEST_REPLY])
+                let less = self.random.pick(&[1, 1, added.max(1)]);
+                self.random.pick(&[LEAST_BUFFER, length - less, length, length + 1, LONGEST_REPLY])
             }
             _ => match self.random.below(12) {
                 0 => self.random.pick(&[0, 1, 4, 26, LEAST_BUFFER - 2, LEAST_BUFFER - 1]),
-                1 => LEAST_BUFFER + 1,
+                1 => LEAST_BUFFER - 1 + self.random.below(6),
                 2 => self.random.below(300),
                 3 => LONGEST_REPLY,
                 _ => LEAST_BUFFER,
@@ -264,18 +270,33 @@ impl Session {
     }
 
     /// Whether the session's record is of a plan that the published bound meets or passes, or that costs something else now, or
-    /// whether every record of the study is about as long as the least buffer or longer.
+    /// whether every record of the study is, by radio at least, as long as the least buffer or longer.
     fn records_matter(&self, study: &Study) -> bool {
         let aside = |record: &Record| {
             let now = true_record(study, record.choices.clone());
             now.cost <= now.bound || now.cost != record.cost
         };
-        let long = records::length(study.trains.len()) >= LEAST_BUFFER;
+        let long = records::length(study.trains.len()) + SUM_CHARACTERS >= LEAST_BUFFER;
         long || self.held_record(study).is_some_and(aside)
     }
 
-    /// A line of any kind, mostly one that a service with this study accepts.
+    /// A line of any kind in either form, mostly one that a service with this study accepts.
     fn line(&mut self, study: Option<&Study>) -> Vec<u8> {
+        let mut line = self.plain_line(study);
+        if self.random.chance(radio_lines::SHARE) {
+            line = radio_lines::any_form(&mut self.random, line);
+        }
+        // Spoilt or damaged clauses may be over many trains: their n alone says how many.
+        let trains = clause_lines::trains(radio::plain_form(&line).as_deref().unwrap_or(&line));
+        let many = self.reach == Reach::SmallLines && trains > Some(self.most_trains);
+        if many {
+            self.junk()
+        } else {
+            line
+        }
+    }
+
+    fn plain_line(&mut self, study: Option<&Study>) -> Vec<u8> {
         if self.random.chance(4) {
             return self.junk();
         }
@@ -293,13 +314,7 @@ impl Session {
         if self.random.chance(if fresh { 20 } else { 6 }) {
             self.damage(&mut line);
         }
-        // Spoilt or damaged clauses may be over many trains: their n alone says how many.
-        let many = self.reach == Reach::SmallLines && clause_lines::trains(&line) > Some(self.most_trains);
-        if many {
-            self.junk()
-        } else {
-            line
-        }
+        line
     }
 
     /// The fields of a load, or of a line of another kind, mostly for this study.
@@ -360,7 +375,7 @@ impl Session {
         let full = self.most_trains == 24 && random.chance(40);
         let n = match self.most_trains {
             24 if full => 24,
-            // A record of 22 trains is as long as the least buffer, one of 23 is longer.
+            // A record of 23 trains is as long as the least buffer, by radio one of 22, and those of more are longer.
             24 if random.chance(60) => random.pick(&[22, 23, 23]),
             most => 1 + random.below(most),
         };
@@ -590,7 +605,7 @@ impl Session {
 
     fn junk(&mut self) -> Vec<u8> {
         let random = &mut self.random;
-        match random.below(6) {
+        match random.below(8) {
             0 => Vec::new(),
             1 => vec![b'0'; LONGEST_LINE - 1 + random.below(4)],
             2 => vec![random.pick(b"xf\n"); LONGEST_LINE - 1 + random.below(4)],
@@ -602,6 +617,7 @@ impl Session {
                 let length = random.below(8);
                 repeat_with(|| random.number() as u8).take(length).collect()
             }
+            5 | 6 => radio_lines::junk(random),
             _ => random
                 .pick(&[
                     "00", "10", "81", "FF", "1", "01", "02", "03", "0400", "05", "06", "0700", "070707",
@@ -629,6 +645,22 @@ pub fn sessions(count: u64, mut see: impl FnMut(&Call, &[i64], &Outcome)) {
             see(&call, &given, &outcome);
         }
     }
+}
+
+/// The same, lines and replies "with the two additions removed" where their sums are right, "in a buffer two bytes shorter",
+/// which may be one character or two below the least one.
+pub fn plain_sessions(count: u64, mut see: impl FnMut(&Call, &[i64], &Outcome)) {
+    sessions(count, |call, given, outcome| {
+        let Exchange { by_radio, line, reply } = Exchange::of(&call.line, outcome.reply());
+        if !by_radio {
+            return see(call, given, outcome);
+        }
+        let capacity = call.capacity.saturating_sub(SUM_CHARACTERS);
+        let plain = Call { capacity, setting: call.setting.clone(), line };
+        let mut buffer = vec![FILLING; capacity];
+        buffer[..reply.len()].copy_from_slice(&reply);
+        see(&plain, given, &Outcome { written: reply.len(), buffer, block: outcome.block.clone() });
+    });
 }
 
 /// The train and the choice with the highest cost in T.

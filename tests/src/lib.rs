@@ -1,6 +1,7 @@
 //! An independent reference of the junction bound service (document 01, and the changes of document 02 that have
 //! landed), and the test tools over it.
 
+pub mod asked;
 pub mod calls;
 pub mod claims;
 pub mod clause_lines;
@@ -16,6 +17,8 @@ pub mod multiples;
 pub mod operations;
 pub mod orders;
 pub mod product;
+pub mod radio;
+pub mod radio_lines;
 pub mod random;
 pub mod reasons;
 pub mod record_lines;
@@ -24,6 +27,7 @@ pub mod rewriting;
 pub mod rooms;
 pub mod saves;
 pub mod search;
+pub mod second_forms;
 pub mod steps;
 pub mod stops;
 pub mod studies;
@@ -39,11 +43,11 @@ use std::error::Error;
 use std::io::{self, BufRead, Write};
 use std::process::ExitCode;
 
-/// "reply buffer below 72 bytes" is number 17.
-pub const LEAST_BUFFER: usize = 72;
+/// "The buffer of 17 becomes 74 for all lines."
+pub const LEAST_BUFFER: usize = 74;
 
-/// The longest reply is the longest load line that a save may answer with. Of the others only a record of 23 or 24 trains, and
-/// the line of a dearest study, of 514 characters at most, are longer than the least buffer.
+/// The longest reply is the longest load line that a save by radio may answer with. Of the others only a record of 24 trains, by
+/// radio of 23 too, and the line of a dearest study, of 516 characters at most, are longer than the least buffer.
 pub const LONGEST_REPLY: usize = LONGEST_LINE;
 
 /// A service: line, lent block, lent reply buffer; gives the number of bytes written to its front.
@@ -55,11 +59,10 @@ pub fn answer(line: &[u8], block: &mut [i64], reply: &mut [u8]) -> usize {
     if reply.len() < LEAST_BUFFER {
         return 0;
     }
-    // "A declined line answers FF and the number as one byte."
-    let bytes = respond(line, block).unwrap_or_else(|refusal| vec![0xFF, refusal as u8]);
+    let bytes = declined(respond(line, block));
     let digits = lines::digits(&bytes);
     // Of a save: "where it doesn't fit, the answer is 17, judged after 5." Of a record "17 as for a save comes last", and of a
-    // dearest study "17 as for a save, last". None of them has changed anything.
+    // dearest study "17 as for a save, last". None of them has changed anything. By radio both additions must fit too.
     if digits.len() > reply.len() {
         return 0;
     }
@@ -67,12 +70,29 @@ pub fn answer(line: &[u8], block: &mut [i64], reply: &mut [u8]) -> usize {
     digits.len()
 }
 
-/// The reply's bytes. The block is written only where a line of kinds 01 to 04, 08, 09 or 0B is accepted.
+/// "A declined line answers FF and the number as one byte."
+fn declined(bytes: Result<Vec<u8>, Refusal>) -> Vec<u8> {
+    bytes.unwrap_or_else(|refusal| vec![0xFF, refusal as u8])
+}
+
+/// The reply's bytes to a line in either form: "1, 2, 3 and 16 come before the kind is known and stay plain."
 fn respond(line: &[u8], block: &mut [i64]) -> Result<Vec<u8>, Refusal> {
-    // "Order: 17, 16, 2, 1, 3, 4. Then fields from left to right ... Then 10, 12 or 14." Change 7: "20 ..., after 5 and
-    // before 10." Change 10: "21 ..., after 5." Change 11: 22 and 23 "follow 5, 22 first". Change 13: "24 ..., after 5."
+    // "Order: 17, 16, 2, 1, 3, 4." Change 14: "25, wrong sum, after 3 and before 4."
     let state = model::decode(block)?;
-    let (kind, fields) = lines::open(line)?;
+    let bytes = lines::bytes(line)?;
+    match radio::plain(&bytes) {
+        None => respond_plainly(bytes, state, block),
+        Some(plain) => {
+            Ok(radio::second(declined(plain.and_then(|bytes| respond_plainly(bytes, state, block)))))
+        }
+    }
+}
+
+/// The reply's bytes to a plain line's. The block is written only where a line of kinds 01 to 04, 08, 09 or 0B is accepted.
+fn respond_plainly(bytes: Vec<u8>, state: Option<Study>, block: &mut [i64]) -> Result<Vec<u8>, Refusal> {
+    // "3, 4. Then fields from left to right ... Then 10, 12 or 14." Change 7: "20 ..., after 5 and before 10." Change 10:
+    // "21 ..., after 5." Change 11: 22 and 23 "follow 5, 22 first". Change 13: "24 ..., after 5."
+    let (kind, fields) = lines::split(bytes)?;
     let present = || state.ok_or(Refusal::Fresh);
     match kind {
         Kind::Load => Ok(hold(0x81, &lines::load(fields)?, block)),

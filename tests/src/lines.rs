@@ -7,8 +7,10 @@ use crate::reasons::Question;
 use crate::records::Record;
 use std::ops::RangeInclusive;
 
-/// "over 19,834 characters" is 2.
-pub const LONGEST_LINE: usize = 19_834;
+/// "The limit in 2 becomes 19,836 characters": the longest load in its second form.
+pub const LONGEST_LINE: usize = 19_836;
+/// A load of 24 trains of 8 choices with 48 pairs, the longest plain line that is accepted.
+pub const LONGEST_LOAD: usize = 19_834;
 /// Lifts and moves; those outside are 11. (Change 3: "A lift may now be −10^12 to 10^12".)
 pub const MOVES: RangeInclusive<i64> = -1_000_000_000_000..=1_000_000_000_000;
 /// W.
@@ -19,7 +21,7 @@ pub const CLAUSES: RangeInclusive<i64> = 0..=500;
 /// A forbidden entry, as a load says it.
 pub const FORBIDDEN: i64 = 0xFF_FFFF;
 
-#[derive(Clone, Copy)]
+#[derive(Clone, Copy, Debug, PartialEq, Eq)]
 pub enum Kind {
     Load,
     Add,
@@ -36,6 +38,30 @@ pub enum Kind {
     Planner,
     Record,
     Dearest,
+}
+
+impl Kind {
+    /// The kind of this number in a plain line.
+    pub fn of(number: u8) -> Option<Self> {
+        match number {
+            1 => Some(Self::Load),
+            2 => Some(Self::Add),
+            3 => Some(Self::Shift),
+            4 => Some(Self::Tighten),
+            5 => Some(Self::Certify),
+            6 => Some(Self::Search),
+            7 => Some(Self::Save),
+            8 => Some(Self::Round),
+            9 => Some(Self::Clauses),
+            10 => Some(Self::Explain),
+            11 => Some(Self::Order),
+            12 => Some(Self::Screen),
+            13 => Some(Self::Planner),
+            14 => Some(Self::Record),
+            15 => Some(Self::Dearest),
+            _ => None,
+        }
+    }
 }
 
 /// The bytes behind the kind, read from the left.
@@ -123,8 +149,8 @@ pub fn cost_fields(costs: &Costs) -> impl Iterator<Item = i64> + '_ {
     costs.entries.iter().map(|entry| entry.map_or(FORBIDDEN, |cost| cost.loaded))
 }
 
-/// The kind and the fields: 2, then 1, then 3.
-pub fn open(line: &[u8]) -> Result<(Kind, Fields), Refusal> {
+/// The line's bytes: 2, then 1.
+pub fn bytes(line: &[u8]) -> Result<Vec<u8>, Refusal> {
     if line.len() > LONGEST_LINE {
         return Err(Refusal::TooLong);
     }
@@ -134,26 +160,18 @@ pub fn open(line: &[u8]) -> Result<(Kind, Fields), Refusal> {
     }
     let byte = |pair: &[u8]| Some(digit(pair[0])? << 4 | digit(pair[1])?);
     let bytes: Option<Vec<u8>> = line.chunks_exact(2).map(byte).collect();
-    let bytes = bytes.ok_or(Refusal::Characters)?;
-    let kind = match bytes[0] {
-        1 => Kind::Load,
-        2 => Kind::Add,
-        3 => Kind::Shift,
-        4 => Kind::Tighten,
-        5 => Kind::Certify,
-        6 => Kind::Search,
-        7 => Kind::Save,
-        8 => Kind::Round,
-        9 => Kind::Clauses,
-        10 => Kind::Explain,
-        11 => Kind::Order,
-        12 => Kind::Screen,
-        13 => Kind::Planner,
-        14 => Kind::Record,
-        15 => Kind::Dearest,
-        _ => return Err(Refusal::NoSuchKind),
-    };
+    bytes.ok_or(Refusal::Characters)
+}
+
+/// The kind and the fields of a plain line's bytes: 3.
+pub fn split(bytes: Vec<u8>) -> Result<(Kind, Fields), Refusal> {
+    let kind = Kind::of(bytes[0]).ok_or(Refusal::NoSuchKind)?;
     Ok((kind, Fields { bytes, next: 1 }))
+}
+
+/// The kind and the fields of a plain line: 2, then 1, then 3.
+pub fn open(line: &[u8]) -> Result<(Kind, Fields), Refusal> {
+    split(bytes(line)?)
 }
 
 /// "n (1 byte), s (2)": how a load and a study written as clauses begin.

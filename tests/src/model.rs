@@ -55,6 +55,8 @@ pub enum Refusal {
     Figures = 23,
     /// "That sum exceeds 10,000,000, after 5."
     Tries = 24,
+    /// "Wrong sum, after 3 and before 4."
+    Sum = 25,
 }
 
 /// The cost of a permitted entry: H in points, T in parts.

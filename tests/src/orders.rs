@@ -1,11 +1,11 @@
 //! Change 10: orders of the generator, and what is said of orders, checked from the outside by searches in several of them.
 
-use crate::calls::{Call, Setting};
+use crate::asked::in_either_form;
 use crate::claims::{accepted, demand, Reader};
 use crate::generator::{line_of, Fields};
 use crate::model::{BLOCK_LENGTH, ORDER};
 use crate::random::Random;
-use crate::{Service, LONGEST_REPLY};
+use crate::Service;
 
 /// A search of any study of the claims with this budget ends.
 const ENOUGH: &[u8] = b"0600989680";
@@ -85,12 +85,6 @@ impl Found {
     }
 }
 
-/// The reply to a line on the block.
-fn reply(service: Service, line: &[u8], block: &mut [i64]) -> Vec<u8> {
-    let call = Call { capacity: LONGEST_REPLY, setting: Setting::AsLeft, line: line.to_vec() };
-    call.run(service, block).reply().to_vec()
-}
-
 /// The order that a load of n trains sets: "0 to n−1, and unused places are 0".
 pub(crate) fn loaded(n: i64) -> Vec<i64> {
     ORDER.map(|place| (place - ORDER.start) as i64).map(|place| if place < n { place } else { 0 }).collect()
@@ -141,9 +135,9 @@ impl Orders {
         demand(given == shown, "an order isn't the line's")
     }
 
-    /// "After lines from fresh, this one among them, an ended search gives the same cost for every order": searches in some
-    /// orders of the study, as it is and as its save loads it on a fresh block, with enough budget and with the line's own.
-    /// Each shows a plan and its cost, or, where there is none, that there is none.
+    /// "After lines from fresh, this one among them, an ended search gives the same cost for every order": searches in either
+    /// form, in some orders of the study, as it is and as its save loads it on a fresh block, with enough budget and with the
+    /// line's own. Each shows a plan and its cost, or, where there is none, that there is none.
     pub(crate) fn check_searches(
         &mut self,
         service: Service,
@@ -154,8 +148,11 @@ impl Orders {
     ) -> Result<(), String> {
         let n = block[0] as usize;
         let mut again = vec![0; BLOCK_LENGTH];
-        let saved = reply(service, b"07", &mut block.to_vec());
-        demand(reply(service, &saved, &mut again).starts_with(b"81"), "a saved line isn't loaded")?;
+        let saved = in_either_form(service, random, b"07", &mut block.to_vec());
+        demand(
+            in_either_form(service, random, &saved, &mut again).starts_with(b"81"),
+            "a saved line isn't loaded",
+        )?;
         let now: Vec<usize> = block[ORDER][..n].iter().map(|&train| train as usize).collect();
         let mut first: Option<Found> = None;
         let mut enough = [false; 2];
@@ -164,11 +161,11 @@ impl Orders {
             let mut after = if from_save { again.clone() } else { block.to_vec() };
             if number > 0 {
                 let order = line_of(&order_fields(&any_order(random, &now)));
-                let shown = reply(service, &order, &mut after);
+                let shown = in_either_form(service, random, &order, &mut after);
                 demand(shown.starts_with(b"8B"), "an order of a study is refused")?;
             }
-            let found = Found::read(&reply(service, ENOUGH, &mut after), n);
-            let own = Found::read(&reply(service, line, &mut after), n);
+            let found = Found::read(&in_either_form(service, random, ENOUGH, &mut after), n);
+            let own = Found::read(&in_either_form(service, random, line, &mut after), n);
             demand(found.ended.is_some(), "a search with enough budget is spent")?;
             demand(own.ended.is_none() || own.ended == found.ended, "a search ends with two costs")?;
             enough[usize::from(own.ended.is_some())] = true;

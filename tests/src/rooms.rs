@@ -1,7 +1,7 @@
 //! Change 12, 'Two rooms, equal ceilings', checked from the outside: by two lists of lines on one study, and where W is 1 by
 //! every plan.
 
-use crate::calls::{Call, Setting};
+use crate::asked::in_either_form;
 use crate::claims::{demand, feed, Ledger, Reader};
 use crate::generator::{certificate_fields, line_of, load_fields, shift_fields, Fields};
 use crate::linear::{highest, Highest};
@@ -10,7 +10,7 @@ use crate::orders::{any_order, order_fields};
 use crate::random::Random;
 use crate::rewriting::Rewriting;
 use crate::studies::{forbid, pairs};
-use crate::{Service, LONGEST_REPLY};
+use crate::Service;
 use std::ops::Range;
 
 /// How often the two sentences were put to the test.
@@ -54,10 +54,10 @@ impl Room {
         Self { service, line: Vec::new(), reply: Vec::new(), block: vec![0; BLOCK_LENGTH], ledger: None }
     }
 
-    fn send(&mut self, fields: &Fields) {
-        let call = Call { capacity: LONGEST_REPLY, setting: Setting::AsLeft, line: line_of(fields) };
-        self.reply = call.run(self.service, &mut self.block).reply().to_vec();
-        self.line = call.line;
+    /// Sends the line in either form: "Lists of lines hold every kind in either form".
+    fn send(&mut self, random: &mut Random, fields: &Fields) {
+        self.line = line_of(fields);
+        self.reply = in_either_form(self.service, random, &self.line, &mut self.block);
         feed(&mut self.ledger, &self.line, &self.reply);
     }
 
@@ -80,18 +80,18 @@ impl Room {
             8 => vec![(1, 6), (4, random.between(1, 30))],
             _ => random.pick(&[[(1, 16), (1, 0)], [(1, 4), (1, 0)], [(1, 2), (1, 24)]]).to_vec(),
         };
-        self.send(&fields);
+        self.send(random, &fields);
         Ok(())
     }
 
     /// A load and additions, these in their order, with other lines between them and behind.
     fn begin(&mut self, random: &mut Random, load: &Fields, adds: &[Fields]) -> Result<(), String> {
-        self.send(load);
+        self.send(random, load);
         for add in adds {
             for _ in 0..random.below(3) {
                 self.other(random)?;
             }
-            self.send(add);
+            self.send(random, add);
         }
         for _ in 0..random.below(6) {
             self.other(random)?;
@@ -103,20 +103,20 @@ impl Room {
     fn end(&mut self, random: &mut Random) -> Result<(), String> {
         let Some(Highest { shift, mut weights }) = highest(random, &self.study()?) else { return Ok(()) };
         if let Some(shift) = shift {
-            self.send(&shift_fields(&shift));
+            self.send(random, &shift_fields(&shift));
         }
         for _ in 0..random.below(6) {
             let study = self.study()?;
             let mut rewriting = Rewriting::of(&study);
             rewriting.step(random);
             if rewriting.study.constant == study.constant {
-                self.send(&shift_fields(&rewriting.shift));
+                self.send(random, &shift_fields(&rewriting.shift));
             }
         }
         let times = random.pick(&[1, 1, 1, 2, 3, 840]);
         weights.whole *= times;
         weights.single.iter_mut().chain(&mut weights.joint).flatten().for_each(|weight| *weight *= times);
-        self.send(&certificate_fields(&weights));
+        self.send(random, &certificate_fields(&weights));
         Ok(())
     }
 

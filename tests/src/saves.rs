@@ -1,9 +1,9 @@
 //! Change 1, 'Saving a study', checked from the outside: by saves and loads alone.
 
+use crate::asked::check_calls;
 use crate::calls::{Call, Setting};
 use crate::claims::demand;
-use crate::generator::{Reach, Session};
-use crate::lines::LONGEST_LINE;
+use crate::lines::LONGEST_LOAD;
 use crate::model::{self, BLOCK_LENGTH, FORBIDDEN, ORDER};
 use crate::orders;
 use crate::{Service, LEAST_BUFFER, LONGEST_REPLY};
@@ -52,7 +52,7 @@ impl Saves {
         self.rewritten += usize::from(!as_loaded(block));
         self.forbidden += usize::from(block.contains(&FORBIDDEN));
         self.ordered += usize::from(block[ORDER] != orders::loaded(block[0]));
-        demand(saved.len() <= LONGEST_LINE, "a saved line is too long")?;
+        demand(saved.len() <= LONGEST_LOAD, "a saved line is too long")?;
         for before in [&[0; BLOCK_LENGTH], block] {
             let mut after = before.to_vec();
             let loaded = reply(service, saved, &mut after, LEAST_BUFFER);
@@ -94,28 +94,20 @@ impl Saves {
     /// One session over studies of every size and blocks that no line makes: each load and each line of clauses that is
     /// accepted, and a save behind each call that leaves a study.
     pub fn check_session(&mut self, service: Service, seed: u64, calls: usize) -> Result<(), String> {
-        let mut session = Session::new(seed, Reach::Blocks);
-        let mut block = vec![0; BLOCK_LENGTH];
-        for number in 0..calls {
-            let call = session.call(&block);
-            let outcome = call.run(service, &mut block);
-            let mut check = || {
-                if outcome.reply().starts_with(b"81") {
-                    self.check_load(service, &outcome.block, &call.line)?;
-                }
-                if outcome.reply().starts_with(b"89") {
-                    self.check_clauses(service, &outcome.block)?;
-                }
-                if !matches!(model::decode(&block), Ok(Some(_))) {
-                    return Ok(());
-                }
-                let mut after = block.clone();
-                let saved = reply(service, b"07", &mut after, LONGEST_REPLY);
-                demand(after == block, "a save changed the block")?;
-                self.check_saved(service, &block, &saved)
-            };
-            check().map_err(|claim: String| format!("session {seed} of saves, call {number}: {claim}"))?;
-        }
-        Ok(())
+        check_calls(service, seed, calls, "saves", |asked, block, _| {
+            if asked.reply.starts_with(b"81") {
+                self.check_load(service, asked.block, asked.line)?;
+            }
+            if asked.reply.starts_with(b"89") {
+                self.check_clauses(service, asked.block)?;
+            }
+            if !matches!(model::decode(block), Ok(Some(_))) {
+                return Ok(());
+            }
+            let mut after = block.to_vec();
+            let saved = reply(service, b"07", &mut after, LONGEST_REPLY);
+            demand(after == block, "a save changed the block")?;
+            self.check_saved(service, block, &saved)
+        })
     }
 }

@@ -1,10 +1,10 @@
 //! Change 11, 'A plan record for platforms and planners', checked from the outside: by lines of its three kinds, by the
 //! places of the block, by the ledger and by every plan of small studies.
 
-use crate::calls::{Call, Setting};
+use crate::asked::{check_calls, reply, Asked};
 use crate::claims::{demand, Reader};
-use crate::generator::{line_of, shift_fields, Reach, Session};
-use crate::model::{self, BLOCK_LENGTH, FORBIDDEN, ORDER};
+use crate::generator::{line_of, shift_fields};
+use crate::model::{self, FORBIDDEN, ORDER};
 use crate::orders;
 use crate::random::Random;
 use crate::record_lines::write_fields;
@@ -43,15 +43,6 @@ pub struct Taken {
     pub blocks: [usize; 3],
 }
 
-/// A line of any kind from the outside, its buffer's length, its reply, and the block that it was given.
-pub(crate) struct Asked<'a> {
-    pub service: Service,
-    pub block: &'a [i64],
-    pub capacity: usize,
-    pub line: &'a [u8],
-    pub reply: &'a [u8],
-}
-
 /// n, the choices, the bound and the cost of a record, and n with the choices as text.
 struct Shown<'a> {
     choices: Vec<i64>,
@@ -74,29 +65,6 @@ impl<'a> Shown<'a> {
 /// The digits of a line of this kind with these digits behind the kind.
 fn of_kind(kind: &[u8], text: &[u8]) -> Vec<u8> {
     [kind, text].concat()
-}
-
-/// The reply to a line that leaves the block, of any length, as it is.
-pub(crate) fn reply(
-    service: Service,
-    line: &[u8],
-    block: &[i64],
-    capacity: usize,
-) -> Result<Vec<u8>, String> {
-    let call = Call { capacity, setting: Setting::Length(block.len()), line: line.to_vec() };
-    let outcome = call.run(service, &mut block.to_vec());
-    demand(outcome.block == block, "a line that leaves the block changed it")?;
-    Ok(outcome.reply().to_vec())
-}
-
-impl Asked<'_> {
-    fn is(&self, kind: &[u8]) -> bool {
-        self.line.starts_with(kind)
-    }
-
-    fn reply(&self, line: &[u8], capacity: usize) -> Result<Vec<u8>, String> {
-        reply(self.service, line, self.block, capacity)
-    }
 }
 
 impl Taken {
@@ -127,7 +95,7 @@ impl Taken {
             let mut other = asked.line.to_vec();
             let mut digit = || all.unwrap_or_else(|| random.pick(b"0123456789ABCDEF"));
             other[behind..].iter_mut().for_each(|character| *character = digit());
-            let same = asked.reply(&other, asked.capacity)? == asked.reply;
+            let same = asked.again(&other)? == asked.reply;
             demand(same, "a screen's answer depends on bytes behind the choices")?;
         }
         Ok(())
@@ -300,21 +268,10 @@ impl Taken {
     /// One session over studies of every size and blocks that no line makes: each line of these kinds, and a line of kind 0E of
     /// some plan behind each call.
     pub fn check_session(&mut self, service: Service, seed: u64, calls: usize) -> Result<(), String> {
-        let mut session = Session::new(seed, Reach::Blocks);
-        let mut random = Random::new(!seed);
-        let mut block = vec![0; BLOCK_LENGTH];
-        for number in 0..calls {
-            let call = session.call(&block);
-            let outcome = call.run(service, &mut block);
-            let (line, reply) = (&call.line[..], outcome.reply());
-            let asked = Asked { service, block: &outcome.block, capacity: call.capacity, line, reply };
-            let mut check = || {
-                self.check_asked(&asked, &mut random)?;
-                self.check_any(service, &block, &mut random)
-            };
-            check().map_err(|claim: String| format!("session {seed} of records, call {number}: {claim}"))?;
-        }
-        Ok(())
+        check_calls(service, seed, calls, "records", |asked, block, random| {
+            self.check_asked(asked, random)?;
+            self.check_any(service, block, random)
+        })
     }
 }
 

@@ -3,7 +3,7 @@
 use reference::calls::{Call, Outcome, Setting};
 use reference::clause_lines::clause_fields;
 use reference::clauses::{Clause, Clauses};
-use reference::generator::{line_of, sessions};
+use reference::generator::{line_of, plain_sessions};
 use reference::lines;
 use reference::model::{decode, BLOCK_LENGTH, FORBIDDEN};
 use reference::LEAST_BUFFER;
@@ -414,6 +414,6 @@ impl Watch {
 #[test]
 fn the_generator_reaches_every_line_of_clauses() {
     let mut watch = Watch::default();
-    sessions(1_600, |call, given, outcome| watch.call(call, given, outcome));
+    plain_sessions(1_600, |call, given, outcome| watch.call(call, given, outcome));
     watch.seen.each_over(5);
 }

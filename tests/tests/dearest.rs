@@ -3,7 +3,7 @@
 use reference::calls::{Call, Outcome, Setting};
 use reference::dearest::{study, tries, Dearest, MOST_TRIES};
 use reference::dearest_lines::{any_sizes, length};
-use reference::generator::{line_of, load_fields, sessions};
+use reference::generator::{line_of, load_fields, plain_sessions};
 use reference::lines;
 use reference::model::{decode, Costs, Pair, Study, BLOCK_LENGTH};
 use reference::random::Random;
@@ -155,13 +155,13 @@ fn both_sides_of_the_limit() {
     assert_eq!(last(&[&format!("0F18{}", "08".repeat(24))]), "FF18");
 }
 
-/// "17 as for a save, last": in a buffer of at least 72, only where the line is longer.
+/// "17 as for a save, last": in a buffer of at least 74, only where the line is longer.
 #[test]
 fn buffers() {
     let fresh = left(&[]);
     let line = last(&["0F020808"]);
     assert_eq!(line.len(), 110);
-    for (capacity, holds) in [(71, false), (72, false), (109, false), (110, true), (111, true)] {
+    for (capacity, holds) in [(73, false), (74, false), (109, false), (110, true), (111, true)] {
         assert_eq!(asked(&fresh, capacity, "0F020808"), if holds { &line } else { "" }, "{capacity}");
     }
     // 16, 5, 6 and 24 come before it.
@@ -368,7 +368,7 @@ impl Watch {
 #[test]
 fn the_generator_reaches_every_line() {
     let mut watch = Watch::default();
-    sessions(2_400, |call, given, outcome| watch.call(call, given, outcome));
+    plain_sessions(2_400, |call, given, outcome| watch.call(call, given, outcome));
     watch.0.each_over(5);
 }
 

@@ -3,7 +3,7 @@
 
 use reference::calls::{digest, Call, Setting, FILLING};
 use reference::generator::every_byte;
-use reference::lines::{digits, LONGEST_LINE};
+use reference::lines::{digits, LONGEST_LOAD};
 use reference::model::BLOCK_LENGTH;
 use reference::{LEAST_BUFFER, LONGEST_REPLY};
 use session::{last, replies};
@@ -70,8 +70,8 @@ fn the_last_line_needs_no_line_end_unless_empty() {
 fn every_row_of_the_table() {
     let zeros = |count: usize| "0".repeat(count);
     assert_eq!(last(&["0"]), "FF01");
-    assert_eq!(last(&[&zeros(LONGEST_LINE + 1)]), "FF02");
-    assert_eq!(last(&[&zeros(LONGEST_LINE)]), "FF03");
+    assert_eq!(last(&[&zeros(19_837)]), "FF02");
+    assert_eq!(last(&[&zeros(19_836)]), "FF03");
     assert_eq!(last(&["FF"]), "FF03");
     assert_eq!(last(&["04"]), "FF04");
     assert_eq!(last(&[J, "0400"]), "FF05");
@@ -160,16 +160,17 @@ fn saves() {
     assert_eq!(replies(&[K, "07", "0700", J, "07"]), [ZERO, K, "FF05", ZERO, J]);
 }
 
-/// 24 trains of 8 choices, 48 pairs and the highest cost everywhere: the longest line there is.
+/// 24 trains of 8 choices, 48 pairs and the highest cost everywhere: the longest plain line that is accepted.
 #[test]
 fn the_longest_line_is_saved() {
     let cost = "0F4240";
     let pairs = (0..24).flat_map(|i| (i + 1..24).map(move |j| (i, j))).take(48);
     let pairs: String = pairs.map(|(i, j)| format!("{i:02X}{j:02X}{}", cost.repeat(64))).collect();
     let load = format!("011803E8{}{}30{pairs}", "08".repeat(24), cost.repeat(24 * 8));
-    assert_eq!(load.len(), LONGEST_LINE);
+    assert_eq!(load.len(), LONGEST_LOAD);
     assert_eq!(replies(&[&load, "07"]), [ZERO, &load]);
-    assert_eq!(last_in(LONGEST_REPLY - 1, &[&load, "07"]), "");
+    assert_eq!(last_in(LONGEST_LOAD, &[&load, "07"]), load);
+    assert_eq!(last_in(LONGEST_LOAD - 1, &[&load, "07"]), "");
 }
 
 /// Change 2: a character is a digit where it is one of the sixteen, for every byte, as either character of a line.
@@ -507,7 +508,7 @@ fn searches_of_given_tables() {
 /// Points that the document leaves short.
 #[test]
 fn readings() {
-    assert_eq!(last(&[&"g".repeat(LONGEST_LINE + 1)]), "FF02");
+    assert_eq!(last(&[&"g".repeat(19_837)]), "FF02");
     assert_eq!(last(&["0f"]), "FF01");
     assert_eq!(last(&["0400"]), "FF04");
     assert_eq!(last(&["01"]), "FF05");

@@ -1,7 +1,7 @@
 //! The generator's reach among forbidden entries.
 
 use reference::calls::{Call, Outcome, Setting};
-use reference::generator::sessions;
+use reference::generator::plain_sessions;
 use reference::model::{decode, Cost, Costs, Study, BLOCK_LENGTH, FORBIDDEN, HELD_ENTRIES, TOP};
 use seen::Seen;
 
@@ -198,6 +198,6 @@ fn used(study: &Study, place: usize) -> bool {
 #[test]
 fn the_generator_reaches_forbidden_entries() {
     let mut seen = Seen::default();
-    sessions(600, |call, given, outcome| seen.call(call, given, outcome));
+    plain_sessions(600, |call, given, outcome| seen.call(call, given, outcome));
     seen.each_over(5);
 }

@@ -1,7 +1,7 @@
 //! Change 10: the order in which trains are tried, by the document, and the generator's reach among orders.
 
 use reference::calls::{Call, Outcome, Setting};
-use reference::generator::sessions;
+use reference::generator::plain_sessions;
 use reference::model::{decode, order, Costs, Pair, Study, BLOCK_LENGTH, ORDER};
 use reference::search::{walk, Best, End, Walk};
 use reference::{LEAST_BUFFER, LONGEST_REPLY};
@@ -451,7 +451,7 @@ impl Watch {
 #[test]
 fn the_generator_reaches_every_order() {
     let mut watch = Watch::default();
-    sessions(1_200, |call, given, outcome| watch.call(call, given, outcome));
+    plain_sessions(1_200, |call, given, outcome| watch.call(call, given, outcome));
     assert!(watch.searches >= 500, "{}", watch.searches);
     watch.seen.each_over(5);
 }

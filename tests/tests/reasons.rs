@@ -1,9 +1,10 @@
 //! Change 8: why a choice is out, by the document, and the generator's reach among its lines.
 
 use reference::calls::{Call, Outcome};
-use reference::generator::sessions;
+use reference::generator::plain_sessions;
 use reference::lines;
 use reference::model::{decode, Study, BLOCK_LENGTH};
+use reference::radio::SUM_CHARACTERS;
 use reference::reasons::{beside, reason, Question, Reason};
 use reference::LEAST_BUFFER;
 use seen::Seen;
@@ -163,7 +164,7 @@ impl Watch {
     fn call(&mut self, call: &Call, given: &[i64], outcome: &Outcome) {
         let reply = outcome.reply();
         if call.line.starts_with(b"0A") {
-            assert!(reply.is_empty() || call.capacity >= LEAST_BUFFER);
+            assert!(reply.is_empty() || call.capacity >= LEAST_BUFFER - SUM_CHARACTERS);
             self.refused(&call.line, given, reply);
             if let Ok(Some(study)) = decode(given) {
                 if reply.starts_with(b"8A") {
@@ -279,6 +280,6 @@ impl Watch {
 #[test]
 fn the_generator_reaches_every_reason() {
     let mut watch = Watch::default();
-    sessions(2_000, |call, given, outcome| watch.call(call, given, outcome));
+    plain_sessions(2_000, |call, given, outcome| watch.call(call, given, outcome));
     watch.seen.each_over(5);
 }

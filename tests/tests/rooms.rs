@@ -77,7 +77,7 @@ fn two_rooms_reach_one_ceiling() {
 #[test]
 fn plans_of_certificates_within_sessions() {
     let mut tally = Tally::default();
-    for seed in 0..400 {
+    for seed in 0..600 {
         if let Err(claim) = check_session(reference::answer, seed, 66, &mut tally) {
             panic!("{claim}");
         }

@@ -1,7 +1,7 @@
 //! Change 9: bounds in steps of the tariff, by the document, and the generator's reach among them.
 
 use reference::calls::{Call, Outcome, Setting};
-use reference::generator::sessions;
+use reference::generator::plain_sessions;
 use reference::model::{decode, Costs, Study, BLOCK_LENGTH, HELD_ENTRIES, TOP};
 use reference::search::{walk, Best, End};
 use reference::steps::step;
@@ -309,7 +309,7 @@ impl Watch {
 #[test]
 fn the_generator_reaches_every_step() {
     let mut watch = Watch::default();
-    sessions(1_600, |call, given, outcome| watch.call(call, given, outcome));
+    plain_sessions(1_600, |call, given, outcome| watch.call(call, given, outcome));
     assert!(watch.higher >= 200, "{}", watch.higher);
     watch.seen.each_over(5);
 }

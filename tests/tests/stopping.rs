@@ -1,7 +1,7 @@
 //! Change 6 on every block: what stopping at the bound leaves as it is, and the generator's reach.
 
 use reference::calls::{Call, Outcome, Setting};
-use reference::generator::sessions;
+use reference::generator::plain_sessions;
 use reference::model::{decode, Study};
 use reference::search::{walk, Best, End, Walk};
 use seen::Seen;
@@ -91,7 +91,7 @@ impl Both {
 fn searches_stop_at_the_bound() {
     let mut seen = Seen::default();
     let mut after = String::new();
-    sessions(1_600, |call, given, outcome| {
+    plain_sessions(1_600, |call, given, outcome| {
         if matches!(call.setting, Setting::Edited(_)) {
             after.clear();
         }

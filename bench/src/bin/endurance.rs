@@ -95,9 +95,10 @@ fn peak(child: &Child) -> Result<String, Box<dyn Error>> {
     Ok(line["VmHWM:".len()..].trim().to_string())
 }
 
-/// Whether a line is a search with a budget above 4,095, which would take most of the time.
+/// Whether a line, in either form, is a search with a budget above 4,095, which would take most of the time.
 fn is_long_search(line: &[u8]) -> bool {
-    line.starts_with(b"06") && !line.starts_with(b"0600000")
+    let forms = [[&b"06"[..], b"0600000"], [b"46", b"4600000"]];
+    forms.into_iter().any(|[kind, short]| line.starts_with(kind) && !line.starts_with(short))
 }
 
 /// Mixed lines of every kind and refusal.

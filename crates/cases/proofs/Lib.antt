@@ -28,3 +28,4 @@ pub mod Records
 pub mod PlanCosts
 pub mod Rooms
 pub mod Dearest
+pub mod Radio

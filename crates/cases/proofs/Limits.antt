@@ -55,7 +55,7 @@ charged_pair = held (two_with (0 ∷ 0 ∷ []) ((0 ∷ 0 ∷ []) ∷ (0 ∷ 1000
 unfoldable pub load_table : List Row
 load_table =
     -- a line's length: the greatest, of zeros, which is no kind
-    declined_long fresh "" 19834 "FF 03"
+    declined_long fresh "" 19836 "FF 03"
     -- n: the greatest, searched with as many tries as it has trains, and with one try less; one more
     ∷ row fresh
     "01 18 0001 01 01 01 01 01 01 01 01 01 01 01 01 01 01 01 01 01 01 01 01 01 01 01 01 000000 000000 000000 000000 000000 000000 000000 000000 000000 000000 000000 000000 000000 000000 000000 000000 000000 000000 000000 000000 000000 000000 000000 000000 00"

@@ -5,7 +5,7 @@ use mathlib.Core.List.{List, [], ◌∷◌}
 use Prim.Native.Nat.{ℕ}
 use lib.ListN.{take}
 use Rattle.tables.specs.WellFormed.{fresh_block}
-use Rattle.service.specs.Calls.{exchanges}
+use Rattle.claims.specs.Ledger.{plain_exchanges}
 use Rattle.cases.specs.Calls.{Row, call, row, declined, Right}
 use Rattle.cases.specs.Computed.{computed}
 use Rattle.cases.specs.Studies.{fresh, j_line, j_with, j}
@@ -65,10 +65,10 @@ j_table_right : Right j_table
 unfolding computed fresh j_line j_with j j_table
 j_table_right = right_by j_table refl
 
-pub j_costs : plan_costs (exchanges fresh_block (calls j_table)) ≡ 3 ∷ 2 ∷ 3 ∷ 2 ∷ []
+pub j_costs : plan_costs (plain_exchanges fresh_block (calls j_table)) ≡ 3 ∷ 2 ∷ 3 ∷ 2 ∷ []
 unfolding computed plan_costs told j_line j_table
 j_costs = rw (session_told fresh_block j_table j_table_session j_table_right) refl
 
-pub unequal_costs : plan_costs (exchanges fresh_block (calls unequal.table)) ≡ 9 ∷ 9 ∷ 10 ∷ 9 ∷ 12 ∷ 9 ∷ []
+pub unequal_costs : plan_costs (plain_exchanges fresh_block (calls unequal.table)) ≡ 9 ∷ 9 ∷ 10 ∷ 9 ∷ 12 ∷ 9 ∷ []
 unfolding computed plan_costs told unequal.table
 unequal_costs = rw (session_told fresh_block unequal.table unequal.table_session unequal.table_right) refl

@@ -41,7 +41,7 @@ table =
     row "0" fresh 1
     ∷ row "" fresh 1
     ∷ row "ff" fresh 1
-    ∷ long "" 19835 fresh 2
+    ∷ long "" 19837 fresh 2
     ∷ row "FF" fresh 3
     ∷ row "40" j 3
     ∷ row "10" j 3

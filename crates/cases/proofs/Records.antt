@@ -145,12 +145,12 @@ table =
     -- a bound above the plan's cost
     ∷ declined j_above "0E 00 01" "FF 17"
     -- '17 as for a save comes last'
-    ∷ silent_long 72 crowd (long_line "0E" 48 "")
+    ∷ silent_long 74 crowd (long_line "0E" 48 "")
     ∷ silent_long 75 crowd (long_line "0E" 48 "")
     ∷ shown_long 76 crowd (long_line "0E" 48 "") (long_line "8E18" 48 "000000000000 000000000018")
-    ∷ shown_long 72 crowd (long_line "0D18" 48 "000000000000 000000000019") (text "FF17")
-    ∷ shown_long 72 crowd (long_line "0D18" 46 "01 000000000000 000000000018") (text "FF16")
-    ∷ shown_long 72 crowd (long_line "0C18" 48 "000000000000 000000000000") (long_line "8C18" 48 "")
+    ∷ shown_long 74 crowd (long_line "0D18" 48 "000000000000 000000000019") (text "FF17")
+    ∷ shown_long 74 crowd (long_line "0D18" 46 "01 000000000000 000000000018") (text "FF16")
+    ∷ shown_long 74 crowd (long_line "0C18" 48 "000000000000 000000000000") (long_line "8C18" 48 "")
     ∷ []
 
 pub table_right : Right table

@@ -1,4 +1,4 @@
--- 'What is declined, with an input for each': document 01's seventeen rows in its order, each with the document's own example, 11 with that of document 02, change 3; then inputs that two rows decline, for the order of the reasons.
+-- 'What is declined, with an input for each': document 01's seventeen rows in its order, each with the document's own example, 2 and 11 with those of document 02, changes 14 and 3; then inputs that two rows decline, for the order of the reasons.
 use mathlib.Core.Path.{refl}
 use mathlib.Core.Bool.{false}
 use mathlib.Core.List.{List, [], ◌∷◌}
@@ -20,8 +20,8 @@ unfoldable pub table : List Row
 table =
     -- 1: 'empty, odd count, other character'
     declined fresh "0" "FF01"
-    -- 2: 'over 19,834 characters': 19,835 zeros
-    ∷ declined_long fresh "" 19835 "FF02"
+    -- 2: over 19,836 characters, by document 02, change 14, 'its example 19,837 zeros'
+    ∷ declined_long fresh "" 19837 "FF02"
     -- 3: 'no such kind'
     ∷ declined fresh "FF" "FF03"
     -- 4: 'kinds 02-06 on a fresh block'
@@ -50,11 +50,11 @@ table =
     ∷ declined j "0600000000" "FF0F"
     -- 16: 'block of another length or not well formed'
     ∷ declined short j_line "FF10"
-    -- 17: 'reply buffer below 72 bytes'
+    -- 17: 'reply buffer below' 74 'bytes', by document 02, change 14
     ∷ silent (min_buffer - 1) fresh j_line
     -- 'Order: 17, 16, 2, 1, 3, 4. Then fields': 17 before 16, 16 before 2, 1 before 3, 4 before 5; 2 before 1 is row 2, whose count is odd
     ∷ silent (min_buffer - 1) short "04"
-    ∷ declined_long short "" 19835 "FF10"
+    ∷ declined_long short "" 19837 "FF10"
     ∷ declined fresh "FFF" "FF01"
     ∷ declined fresh "0400" "FF04"
     -- a lift of −1 is fine, and the next field is not there

@@ -6,6 +6,7 @@ use lib.IntN.{ℤ}
 use lib.ListN.{get_or, drop}
 use Rattle.service.specs.Answer.{answer}
 use Rattle.service.specs.Calls.{exchanges}
+use Rattle.claims.specs.Ledger.{plain_exchanges}
 use Rattle.cases.specs.Calls.{Block, Row, Left, left_by, left, Right, said}
 use Rattle.cases.specs.Computed.{answer_on, computed}
 use Rattle.cases.specs.Sessions.{gets, handed, Session, calls, told}
@@ -26,7 +27,7 @@ right_by rs e = left-computed rs ∙ e
 
 -- ---- the ledger of a session's calls is the one that its rows tell
 
-pub session_told : (b : List ℤ) (rs : List Row) → Session b rs → Right rs → exchanges b (calls rs) ≡ told rs
+pub session_told : (b : List ℤ) (rs : List Row) → Session b rs → Right rs → plain_exchanges b (calls rs) ≡ told rs
 unfolding gets handed calls told exchanges left left_by said
 session_told b [] s e = refl
 session_told b (r ∷ rs) s e =

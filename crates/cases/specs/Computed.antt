@@ -32,6 +32,7 @@ use Rattle.tighten.specs.Tighten.{pair_tightened, tightened}
 use Rattle.directional.specs.Directional.{cost_taken, pair_round, pair_turn, train_round, directed}
 use Rattle.certificates.specs.Certify.{train_balanced, row_balanced, column_balanced, pair_balanced, balanced, choice_spared, entry_spared, spared, over_choices, over_pairs, weighted}
 use Rattle.reasons.specs.Reasons.{own_reaches, pair_reaches, out_by, reason_of}
+use Rattle.frames.specs.ByteSum.{byte_sum}
 use Rattle.frames.specs.Digits.{digit, digit_of, byte_at}
 use Rattle.frames.specs.Fields.{field, signed, field_digits}
 use Rattle.frames.specs.Frames.{all_digits, framed}
@@ -56,6 +57,8 @@ use Rattle.search.specs.Walk as walk
 use Rattle.search.specs.Answer.{search_answer}
 use Rattle.replies.specs.Replies.{refusal_reply, bound_reply, certify_reply, search_reply, reason_reply, order_reply, screen_reply, record_reply, fields_digits}
 use Rattle.requests.specs.Answer.{Answer, answered, requested, line_answer}
+use Rattle.radio.specs.Forms.{is_radio, plain_line, radio_reply}
+use Rattle.radio.specs.Answer.{radio_answer, form_answer}
 use Rattle.service.specs.Answer.{min_buffer}
 use Rattle.cases.specs.Written.{text, marks, closed, place, places, rows, grids, laid_in, laid}
 use Rattle.cases.specs.Calls.{Block, held, held_in, Row, call, row, declined, declined_long, silent, Left, left_by, said}
@@ -64,7 +67,7 @@ use Rattle.cases.specs.Calls.{Block, held, held_in, Row, call, row, declined, de
 unfoldable pub answer_on : List ℕ → Block → List ℕ → Answer
 answer_on l b buffer =
     cond (ltb (length buffer) min_buffer) (answered b.numbers [])
-    (cond b.formed (line_answer l b.numbers (length buffer)) (answered b.numbers (refusal_reply Malformed)))
+    (cond b.formed (form_answer l b.numbers (length buffer)) (answered b.numbers (refusal_reply Malformed)))
 
 -- what each call leaves. Whoever opens this name opens the definitions of rows and blocks, and, crate by crate, those on the answer's way
 unfoldable pub computed : List Row → List Left
@@ -81,6 +84,6 @@ unfolding text zeros marks closed place places rows grids laid_in laid held held
     clause_verdict clause_run_verdict clauses_verdict clauses_of add_verdict shift_verdict certify_verdict search_verdict explain_verdict order_verdict record_verdict plan_verdict dearest_verdict study_line kind_line line_of
     barred walk.added partial_total one_try tried_from opened_train walked rank by_train walked_in searched_in searched search_answer
     fields_digits refusal_reply bound_reply certify_reply search_reply reason_reply order_reply screen_reply record_reply
-    requested line_answer
+    requested line_answer byte_sum is_radio plain_line radio_reply radio_answer form_answer
 computed [] = []
 computed (r ∷ rs) = left_by (answer_on r.line r.on (marks r.room)) r.room ∷ computed rs

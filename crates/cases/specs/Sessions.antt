@@ -1,6 +1,7 @@
 -- Rows as one list of calls, and what the ledger is told of them.
 use Rattle.std.specs.Prelude.{◌≡◌, List, [], ◌∷◌, ℤ}
 use Rattle.service.specs.Calls.{Call, Exchange, exchange}
+use Rattle.claims.specs.Ledger.{plain_exchange}
 use Rattle.cases.specs.Written.{marks}
 use Rattle.cases.specs.Calls.{Row}
 
@@ -23,7 +24,7 @@ unfoldable pub calls : List Row → List Call
 calls [] = []
 calls (r ∷ rs) = record { line = r.line; buffer = marks r.room } ∷ calls rs
 
--- their lines with their replies: what the ledger is fed
+-- their lines with their replies, 'with the two additions removed': what the ledger is fed
 unfoldable pub told : List Row → List Exchange
 told [] = []
-told (r ∷ rs) = exchange r.line r.reply ∷ told rs
+told (r ∷ rs) = plain_exchange (exchange r.line r.reply) ∷ told rs

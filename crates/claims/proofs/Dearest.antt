@@ -2,15 +2,14 @@
 -- reply to an accepted line of kind 0F is the line of the dearest study of its sizes. Every block takes it as a load, and is then that study loaded, of which the walk tries everything (`dearest_answer_ended`).
 use mathlib.Core.Path.{◌≡◌, refl, sym, ap, subst, ◌∙◌}
 use mathlib.Core.Bool.{Bool, true, false, ◌&&◌}
-use mathlib.Core.List.{List, [], ◌∷◌}
+use mathlib.Core.List.{List}
 use Prim.Native.Nat.{ℕ, ◌<◌, ◌≤◌}
 use native.Mathlib.Omega.{arith}
 use lib.IntN.{ℤ}
 use lib.ListN.{length}
 use Rattle.theory.specs.Tries.{tries_of}
-use Rattle.theory.proofs.Range.{not_both}
 use Rattle.tables.specs.Block.{trains, size, order}
-use Rattle.tables.specs.WellFormed.{fresh_block, well_formed, Study}
+use Rattle.tables.specs.WellFormed.{well_formed, Study}
 use Rattle.tables.specs.Plans.{IsPlan, shape_of}
 use Rattle.tables.proofs.Study.{size_range}
 use Rattle.operations.specs.Load.{loaded_block}
@@ -28,68 +27,56 @@ use Rattle.search.specs.Answer.{is_found, search_answer}
 use Rattle.search.proofs.Theorems.{search_count, answer_without}
 use Rattle.tries.proofs.Most.{answer_tries}
 use Rattle.tries.proofs.Dearest.{dearest_answer_ended, dearest_answer_spent}
-use Rattle.replies.specs.Replies.{bound_reply, ending, search_reply}
+use Rattle.replies.specs.Replies.{longest_fixed, bound_reply, ending, search_reply}
 use Rattle.replies.specs.Shown.{accepted, ending_shown, says_ended, count_shown}
-use Rattle.replies.proofs.Accepted.{empty_refused, bound_accepted}
+use Rattle.replies.proofs.Accepted.{bound_accepted}
 use Rattle.replies.proofs.ReadBack.{ending-shown, search_ended, count-shown}
-use Rattle.requests.specs.Answer.{Answer, answered, requested}
+use Rattle.requests.specs.Answer.{Answer, answered, requested, line_answer}
 use Rattle.requests.specs.Wrote.{Asks}
 use Rattle.requests.proofs.Ready.{search_ready}
 use Rattle.requests.proofs.LineCases.{fixed_line}
 use Rattle.requests.proofs.DearestLine.{IsDearest, dearest_accepted_line}
 use Rattle.service.specs.Answer.{min_buffer, answer}
-use Rattle.service.specs.Calls.{Call, last_block, exchanges}
-use Rattle.service.proofs.Calls.{answered_line}
 use Rattle.claims.specs.Claims.{sizes_of}
 use Rattle.claims.specs.Dearest.{TriesAtMost, AllTried, LoadsDearest, DearestReached}
-use Rattle.claims.specs.Rooms.{last_exchange}
+use Rattle.claims.proofs.Asking.{line_asking, asking_kind, asks_answered, accepted_call, accepted_asks}
 use Rattle.claims.proofs.Saves.{load_answer}
-use Rattle.claims.proofs.Shifts.{accepted_asks, asking_kind}
+use Rattle.claims.proofs.After.{state_right, last_of_calls}
 
 -- ---- an accepted search
 
-module _ (l : List ℕ) (b : List ℤ) (buffer : List ℕ) (known : kind_of l ≡ kind_number kind.Search) (y : accepted (answer l b buffer).reply ≡ true) where
-  asked_search : Asks l b (search_request l) (length buffer)
-  asked_search = asking_kind kind.Search (accepted_asks l b buffer y) (ap new_kind known ∙ number_kind kind.Search)
-
+module _ {l : List ℕ} {b : List ℤ} {room : ℕ} (asked : Asks l b (search_request l) room) where
   study : Study b
-  study = (search_ready asked_search).0
+  study = (search_ready asked).0
 
-  answer_is : answer l b buffer ≡ answered b (search_reply (trains b) (search_answer b (search_budget l)))
+  line_is : line_answer l b room ≡ answered b (search_reply (trains b) (search_answer b (search_budget l)))
   unfolding requested
-  answer_is =
-      let a = asked_search in
-      answered_line l b buffer (accepted_asks l b buffer y).large a.right ∙ fixed_line l b (length buffer) a.fits a.right (search_request l) refl a.asked
+  line_is = fixed_line l b room asked.fits asked.right (search_request l) refl asked.asked
 
   -- the count fits its field
   count_low : (search_answer b (search_budget l)).count ≤ search_budget l
   unfolding search_answer
   count_low = search_count study (search_budget l)
 
-  count_is : count_shown (answer l b buffer).reply ≡ (search_answer b (search_budget l)).count
-  count_is = rw answer_is (count-shown (trains b) (search_answer b (search_budget l)) (omega (arith, count_low, (search_ready asked_search).1)))
+  count_is : count_shown (search_reply (trains b) (search_answer b (search_budget l))) ≡ (search_answer b (search_budget l)).count
+  count_is = count-shown (trains b) (search_answer b (search_budget l)) (omega (arith, count_low, (search_ready asked).1))
 
-  -- ---- at most
+-- ---- at most
 
-  tried_here : ((d : ℕ) → d < trains b → order b d ≡ d) → count_shown (answer l b buffer).reply ≤ tries_of (trains b) (size b)
-  tried_here own = omega (arith, count_is, answer_tries study own (search_budget l))
+-- a reply counts no more tries than the sizes of the block c give, if its trains stand in loaded order
+abbrev TriedAtMost : List ℕ → List ℤ → Type 0
+TriedAtMost reply c = ((d : ℕ) → d < trains c → order c d ≡ d) → count_shown reply ≤ tries_of (trains c) (size c)
 
-  tried_most : (c : List ℤ) → (answer l b buffer).block ≡ c → ((d : ℕ) → d < trains c → order c d ≡ d) → count_shown (answer l b buffer).reply ≤ tries_of (trains c) (size c)
-  tried_most c e =
-      let same : b ≡ c = ap (λ (a : Answer). a.block) (sym answer_is) ∙ e in
-      subst (λ (d : List ℤ). ((i : ℕ) → i < trains d → order d i ≡ i) → count_shown (answer l b buffer).reply ≤ tries_of (trains d) (size d)) same tried_here
+tried_line : (l : List ℕ) (b : List ℤ) (room : ℕ) → longest_fixed ≤ room → well_formed b ≡ true → accepted (line_answer l b room).reply ≡ true → kind_of l ≡ kind_number kind.Search
+    → TriedAtMost (line_answer l b room).reply (line_answer l b room).block
+tried_line l b room h right y known =
+    let asked = asking_kind kind.Search (line_asking l b room h right y) (ap new_kind known ∙ number_kind kind.Search) in
+    rw (line_is asked) (λ own. omega (arith, count_is asked, answer_tries (study asked) own (search_budget l)))
 
--- a list that ends so
-tried_from : (b : List ℤ) (cs : List Call) → kind_of (last_exchange (exchanges b cs)).line ≡ kind_number kind.Search → accepted (last_exchange (exchanges b cs)).reply ≡ true
-    → ((d : ℕ) → d < trains (last_block b cs) → order (last_block b cs) d ≡ d)
-    → count_shown (last_exchange (exchanges b cs)).reply ≤ tries_of (trains (last_block b cs)) (size (last_block b cs))
-unfolding last_exchange exchanges last_block
-tried_from b [] k y own = absurd (not_both y empty_refused)
-tried_from b (c ∷ []) k y own = tried_most c.line b c.buffer k y (answer c.line b c.buffer).block refl own
-tried_from b (c ∷ d ∷ cs) k y own = tried_from (answer c.line b c.buffer).block (d ∷ cs) k y own
-
+-- a list that ends so, in either form
 pub tries_at_most : TriesAtMost
-tries_at_most calls e = tried_from fresh_block calls e.kind e.fine e.loaded
+tries_at_most calls e =
+    last_of_calls (λ l a. kind_of l ≡ kind_number kind.Search → TriedAtMost a.reply a.block) (λ g b s l room h y. tried_line l b room h (state_right s) y) calls e.fine e.kind e.loaded
 
 -- ---- the dearest study
 
@@ -126,16 +113,22 @@ module _ {sizes : List ℕ} (r : SizesRight sizes) where
 
   -- an accepted search on it
   module _ (l buffer : List ℕ) (known : kind_of l ≡ kind_number kind.Search) (y : accepted (answer l here buffer).reply ≡ true) where
+    asked : Asks l here (search_request l) (length buffer)
+    asked = accepted_asks l here buffer kind.Search (ap new_kind known ∙ number_kind kind.Search) y
+
+    answer_is : answer l here buffer ≡ answered here (search_reply (trains here) (search_answer here (search_budget l)))
+    answer_is = asks_answered l here buffer (accepted_call l here buffer y).0 asked ∙ line_is asked
+
     says_ended_as : says_ended (answer l here buffer).reply ≡ (search_answer here (search_budget l)).ended && is_found (search_answer here (search_budget l))
-    says_ended_as = rw (answer_is l here buffer known y) (search_ended (trains here) (search_answer here (search_budget l)))
+    says_ended_as = rw answer_is (search_ended (trains here) (search_answer here (search_budget l)))
 
     ending_as : ending_shown (answer l here buffer).reply ≡ ending (search_answer here (search_budget l))
-    ending_as = rw (answer_is l here buffer known y) (ending-shown (trains here) (search_answer here (search_budget l)))
+    ending_as = rw answer_is (ending-shown (trains here) (search_answer here (search_budget l)))
 
     all_tried_here : AllTried (dearest_tries sizes) l (answer l here buffer).reply
     all_tried_here =
         let n = search_budget l in
-        let count = count_is l here buffer known y in
+        let count : count_shown (answer l here buffer).reply ≡ (search_answer here n).count = rw answer_is (count_is asked) in
         record {
           enough = λ h. let d = dearest_answer_ended r n h in (says_ended_as ∙ rw (d.0, ended_found n d.0) refl, count ∙ d.1);
           less = λ h. let d = dearest_answer_spent r n h in (ending_as ∙ rw d.0 refl, count ∙ d.1);
@@ -155,9 +148,8 @@ module _ {sizes : List ℕ} (r : SizesRight sizes) where
 module _ (l : List ℕ) (b : List ℤ) (buffer : List ℕ) (known : kind_of l ≡ kind_number kind.Dearest) (y : accepted (answer l b buffer).reply ≡ true) where
   given : IsDearest l b (length buffer) (answer l b buffer)
   given =
-      let w = accepted_asks l b buffer y in
-      let a = asking_kind kind.Dearest w (ap new_kind known ∙ number_kind kind.Dearest) in
-      let e = answered_line l b buffer w.large a.right in
+      let a = accepted_asks l b buffer kind.Dearest (ap new_kind known ∙ number_kind kind.Dearest) y in
+      let e = asks_answered l b buffer (accepted_call l b buffer y).0 a in
       subst (IsDearest l b (length buffer)) (sym e) (dearest_accepted_line l b (length buffer) (rw e at y) a)
 
   reached : LoadsDearest (dearest_tries (sizes_of l)) (answer l b buffer).reply

@@ -1,11 +1,10 @@
--- What no line but a load changes: an addition writes natural numbers where such stood; moves never meet H, and the tables of a study are mates, so that T is forbidden where H is.
+-- What no line but a load changes, in either form: an addition writes natural numbers where such stood; moves never meet H, and the tables of a study are mates, so that T is forbidden where H is.
 use Rattle.std.specs.Prelude.{Ok, Err}
 use mathlib.Core.Path.{◌≡◌, refl, sym, ap, ◌∙◌}
 use mathlib.Core.Bool.{false}
 use mathlib.Core.List.{List}
 use Prim.Native.Nat.{ℕ, ◌+◌, ◌*◌, ◌<◌, ◌≤◌}
 use lib.IntN.{ℤ}
-use lib.ListN.{length}
 use Rattle.theory.proofs.Range.{not_both}
 use Rattle.theory.proofs.Lists.{list_length}
 use Rattle.refusals.specs.Verdicts.{Verdict, settled}
@@ -38,9 +37,10 @@ use Rattle.requests.specs.Wrote.{Asks}
 use Rattle.requests.proofs.Ready.{study_ready, add_ready, order_ready}
 use Rattle.requests.proofs.Outcomes.{operated_leaves, requested_leaves}
 use Rattle.requests.proofs.LineCases.{line_cases}
-use Rattle.service.proofs.AnswerCases.{fixed_fit, answer_cases}
+use Rattle.radio.specs.Forms.{as_plain}
 use Rattle.claims.specs.Ledger.{by_kind, loads}
 use Rattle.claims.specs.Forbidden.{ForbiddenStays}
+use Rattle.claims.proofs.Asking.{block_cases}
 use Rattle.claims.proofs.ByKind.{by_kind_lem}
 
 -- at every place of H and T, what is forbidden in b is so in c, and what is permitted too
@@ -84,5 +84,6 @@ module _ (l : List ℕ) (b : List ℤ) (other : by_kind loads false l ≡ false)
 
 pub forbidden_stays : ForbiddenStays
 forbidden_stays l b buffer other =
-    answer_cases l b buffer (λ a. Alike b a.block) (λ h p m q. refl) (λ e p m q. refl)
-    (λ h e. line_cases l b (length buffer) (fixed_fit buffer h) e (λ a. Alike b a.block) (λ r e p m q. refl) (λ q a f. requested_alike l b other (length buffer) q a) (λ q a f p m z. refl))
+    block_cases l b buffer (Alike b) (λ p m q. refl)
+    (λ room h e.
+    line_cases (as_plain l) b room h e (λ a. Alike b a.block) (λ r e p m q. refl) (λ q a f. requested_alike (as_plain l) b other room q a) (λ q a f p m z. refl))

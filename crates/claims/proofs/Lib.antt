@@ -1,5 +1,6 @@
 -- The laws of the crate: one file for each idea.
 pub mod ByKind
+pub mod Asking
 pub mod Declined
 pub mod Shifts
 pub mod Lines
@@ -11,6 +12,7 @@ pub mod SaveClaims
 pub mod RoundClaims
 pub mod RecordClaims
 pub mod DearestClaims
+pub mod PlainCalls
 pub mod Steps
 pub mod After
 pub mod Demand
@@ -25,6 +27,10 @@ pub mod Orders
 pub mod Records
 pub mod Rooms
 pub mod Dearest
+pub mod Radio
+pub mod RadioScreens
+pub mod RadioSaves
+pub mod RadioRecords
 pub mod ByComputing
 pub mod Uses
 pub mod UsesForbidden
@@ -32,3 +38,4 @@ pub mod UsesSteps
 pub mod UsesRecords
 pub mod UsesRooms
 pub mod UsesDearest
+pub mod UsesRadio

@@ -1,15 +1,14 @@
 -- Two rooms, equal ceilings: a certificate that says reached has weights that agree, spare what is forbidden, and weigh T as W times its constant. In both blocks T weighs s times what the one H does, so neither
--- constant is above the other (`reached_same` in weights). Of the lists nothing is needed but that block and ledger keep together, which an accepted certificate shows.
+-- constant is above the other (`reached_same` in weights). Of the lists nothing is needed but that block and ledger keep together, which an accepted certificate shows, in either form.
 use Rattle.std.specs.Prelude.{Result, Ok, Err}
 use mathlib.Core.Path.{◌≡◌, refl, sym, ap, ap₂, ◌∙◌}
 use mathlib.Core.Bool.{true, false, ◌&&◌}
-use mathlib.Core.List.{List, [], ◌∷◌}
+use mathlib.Core.List.{List}
 use mathlib.Core.Logic.{inl, inr}
-use Prim.Native.Nat.{ℕ, ◌*◌, ◌<◌}
+use Prim.Native.Nat.{ℕ, ◌*◌, ◌<◌, ◌≤◌}
 use native.Mathlib.Nat.{mul_assoc, mul_comm}
 use lib.Dec.{eqb}
 use lib.IntN.{ℤ}
-use lib.ListN.{length}
 use borrow.Author.Tests.{eqb-true}
 use Rattle.theory.proofs.Range.{not_both, both_true}
 use Rattle.refusals.specs.declared.Refusal.{Refusal}
@@ -34,24 +33,23 @@ use Rattle.lines.proofs.KindNumbers.{number_kind}
 use Rattle.kinds.specs.Lines.{certify_request}
 use Rattle.kinds.proofs.Accepted.{certify_fine}
 use Rattle.reader.proofs.LineAccepted.{line_makes}
+use Rattle.replies.specs.Replies.{longest_fixed}
 use Rattle.replies.specs.Shown.{accepted, flag_shown, weighted_shown, full_weight_shown}
-use Rattle.replies.proofs.Accepted.{empty_refused, refusal_refused}
+use Rattle.replies.proofs.Accepted.{refusal_refused}
 use Rattle.replies.proofs.ReadBack.{certify_flag}
-use Rattle.requests.specs.Answer.{certified, requested}
+use Rattle.requests.specs.Answer.{Answer, certified, requested, line_answer}
 use Rattle.requests.specs.Wrote.{Asks}
 use Rattle.requests.proofs.LineCases.{fixed_line}
-use Rattle.service.specs.Answer.{answer}
-use Rattle.service.specs.Calls.{Call, exchange, last_block, exchanges}
-use Rattle.service.proofs.Calls.{answered_line}
-use Rattle.claims.specs.Ledger.{Ledger, fed, empty_ledger}
+use Rattle.service.specs.Calls.{Call, exchange}
+use Rattle.claims.specs.Ledger.{Ledger}
 use Rattle.claims.specs.Claims.{reaches}
-use Rattle.claims.specs.Rooms.{EqualStudies, says_reached, last_exchange, last_of, block_after, RoomsAgree, OpenRoomsAgree}
+use Rattle.claims.specs.Rooms.{EqualStudies, says_reached, last_of, block_after, RoomsAgree, OpenRoomsAgree}
+use Rattle.claims.proofs.Asking.{line_asking, asking_kind}
 use Rattle.claims.proofs.ByKind.{line_claim}
 use Rattle.claims.proofs.Keeps.{Keeps}
 use Rattle.claims.proofs.Lines.{flag_true}
 use Rattle.claims.proofs.OnePlan.{line_weights}
-use Rattle.claims.proofs.Shifts.{accepted_asks, asking_kind}
-use Rattle.claims.proofs.After.{State, called}
+use Rattle.claims.proofs.After.{State, state_right, called_line, last_of_calls}
 
 -- ---- a certificate that says reached
 
@@ -71,62 +69,58 @@ keeps_of : {g : Ledger} {b : List ℤ} → State g b → is_fresh b ≡ false �
 keeps_of (inl e) f = absurd (not_both fresh_is_fresh (rw e at f))
 keeps_of (inr k) f = k
 
-module _ {g : Ledger} {b : List ℤ} (s : State g b) (l buffer : List ℕ) (y : accepted (answer l b buffer).reply ≡ true) (known : new_kind (kind_of l) ≡ Ok Certify)
-    (f : flag_shown (answer l b buffer).reply ≡ 1) where
-  asked : Asks l b (certify_request l (weight_count (shape_of b))) (length buffer)
-  asked = asking_kind Certify (accepted_asks l b buffer y) known
+module _ {g : Ledger} {b : List ℤ} (s : State g b) (l : List ℕ) (room : ℕ) (fits : longest_fixed ≤ room) where
+  abbrev here : Answer
+  here = line_answer l b room
 
-  answer_is : answer l b buffer ≡ certified (certify_full_weight l) (certificate b (line_weights l b)) b
-  unfolding requested
-  answer_is =
-      answered_line l b buffer (accepted_asks l b buffer y).large asked.right
-      ∙ fixed_line l b (length buffer) asked.fits asked.right (certify_request l (weight_count (shape_of b))) refl asked.asked
+  module _ (y : accepted here.reply ≡ true) (known : new_kind (kind_of l) ≡ Ok Certify) (f : flag_shown here.reply ≡ 1) where
+    asked : Asks l b (certify_request l (weight_count (shape_of b))) room
+    asked = asking_kind Certify (line_asking l b room fits (state_right s) y) known
 
-  -- what demand 3 claims of it
-  shows_it : weighted_shown (answer l b buffer).reply ≡ full_weight_shown (answer l b buffer).reply * constant b
-  shows_it =
-      let claim = line_claim ((called s l buffer).call.line y) Certify known in
-      eqb-true _ _ (flag_true (reaches b (answer l b buffer).reply) (sym claim.reached ∙ f))
+    answer_is : here ≡ certified (certify_full_weight l) (certificate b (line_weights l b)) b
+    unfolding requested
+    answer_is = fixed_line l b room asked.fits asked.right (certify_request l (weight_count (shape_of b))) refl asked.asked
 
-  reached_call : Reached (answer l b buffer).block (answer l b buffer).reply
-  reached_call = go (certificate b (line_weights l b)) refl
-    where
-      go : (c : Result Ceiling Refusal) → certificate b (line_weights l b) ≡ c → Reached (answer l b buffer).block (answer l b buffer).reply
-      go (Err r) h = absurd (not_both (rw (answer_is, h) at y) (refusal_refused r))
-      go (Ok c) h =
-          let w = certify_ceiling b (line_weights l b) h in
-          let m = line_makes l b (certify_request l (weight_count (shape_of b))) asked.asked in
-          let e = flag_true c.reached (sym (certify_flag (certify_full_weight l) c) ∙ rw (answer_is, h) at f) in
-          let same : (answer l b buffer).block ≡ b = rw (answer_is, h) refl in
-          rw same
-          (record {
-            ledger = g;
-            keeps = keeps_of s m.1.2;
-            weights = line_weights l b;
-            agrees = w.agrees;
-            spares = spared_spares (shape_of b) (line_weights l b) w.spares;
-            above = (certify_fine l (weight_count (shape_of b)) m.1.1).full_weight.0;
-            is = eqb-true _ _ (sym w.reached ∙ e);
-            shows = shows_it;
-          })
+    -- what demand 3 claims of it
+    shows_it : weighted_shown here.reply ≡ full_weight_shown here.reply * constant b
+    shows_it =
+        let claim = line_claim ((called_line s l room fits).call.line y) Certify known in
+        eqb-true _ _ (flag_true (reaches b here.reply) (sym claim.reached ∙ f))
 
-reached_says : {g : Ledger} {b : List ℤ} → State g b → (l buffer : List ℕ) → says_reached (exchange l (answer l b buffer).reply) ≡ true
-    → Reached (answer l b buffer).block (answer l b buffer).reply
-reached_says {g} {b} s l buffer e =
-    let p = both_true (accepted (answer l b buffer).reply) (eqb (kind_of l) (kind_number Certify) && eqb (flag_shown (answer l b buffer).reply) 1) e in
-    let q = both_true (eqb (kind_of l) (kind_number Certify)) (eqb (flag_shown (answer l b buffer).reply) 1) p.1 in
-    reached_call s l buffer p.0 (ap new_kind (eqb-true (kind_of l) (kind_number Certify) q.0) ∙ number_kind Certify) (eqb-true (flag_shown (answer l b buffer).reply) 1 q.1)
+    reached_call : Reached here.block here.reply
+    reached_call = go (certificate b (line_weights l b)) refl
+      where
+        go : (c : Result Ceiling Refusal) → certificate b (line_weights l b) ≡ c → Reached here.block here.reply
+        go (Err r) h = absurd (not_both (rw (answer_is, h) at y) (refusal_refused r))
+        go (Ok c) h =
+            let w = certify_ceiling b (line_weights l b) h in
+            let m = line_makes l b (certify_request l (weight_count (shape_of b))) asked.asked in
+            let e = flag_true c.reached (sym (certify_flag (certify_full_weight l) c) ∙ rw (answer_is, h) at f) in
+            let same : here.block ≡ b = rw (answer_is, h) refl in
+            rw same
+            (record {
+              ledger = g;
+              keeps = keeps_of s m.1.2;
+              weights = line_weights l b;
+              agrees = w.agrees;
+              spares = spared_spares (shape_of b) (line_weights l b) w.spares;
+              above = (certify_fine l (weight_count (shape_of b)) m.1.1).full_weight.0;
+              is = eqb-true _ _ (sym w.reached ∙ e);
+              shows = shows_it;
+            })
+
+  reached_says : accepted here.reply ≡ true → says_reached (exchange l here.reply) ≡ true → Reached here.block here.reply
+  reached_says y e =
+      let p = both_true (accepted here.reply) (eqb (kind_of l) (kind_number Certify) && eqb (flag_shown here.reply) 1) e in
+      let q = both_true (eqb (kind_of l) (kind_number Certify)) (eqb (flag_shown here.reply) 1) p.1 in
+      reached_call y (ap new_kind (eqb-true (kind_of l) (kind_number Certify) q.0) ∙ number_kind Certify) (eqb-true (flag_shown here.reply) 1 q.1)
 
 -- a list that ends so leaves such a block
-reached_from : {g : Ledger} {b : List ℤ} → State g b → (cs : List Call) → says_reached (last_exchange (exchanges b cs)) ≡ true
-    → Reached (last_block b cs) (last_exchange (exchanges b cs)).reply
-unfolding last_exchange exchanges last_block
-reached_from s [] e = absurd (not_both (both_true (accepted []) (eqb (kind_of []) (kind_number Certify) && eqb (flag_shown []) 1) e).0 empty_refused)
-reached_from s (c ∷ []) e = reached_says s c.line c.buffer e
-reached_from {g = g} {b = b} s (c ∷ d ∷ cs) e = reached_from {g = fed (exchange c.line (answer c.line b c.buffer).reply) g} (called s c.line c.buffer).state (d ∷ cs) e
-
 reached_after : (calls : List Call) → says_reached (last_of calls) ≡ true → Reached (block_after calls) (last_of calls).reply
-reached_after calls e = reached_from {g = empty_ledger} (inl refl) calls e
+reached_after calls e =
+    let r = last_of calls in
+    let y = (both_true (accepted r.reply) (eqb (kind_of r.line) (kind_number Certify) && eqb (flag_shown r.reply) 1) e).0 in
+    last_of_calls (λ l a. says_reached (exchange l a.reply) ≡ true → Reached a.block a.reply) (λ g b s l room h y. reached_says s l room h y) calls y e
 
 -- ---- equal studies
 

@@ -24,21 +24,20 @@ use Rattle.requests.proofs.Ready.{study_ready}
 use Rattle.requests.proofs.Outcomes.{operated_leaves, operated_done}
 use Rattle.requests.proofs.LineCases.{fixed_line}
 use Rattle.service.specs.Answer.{answer}
-use Rattle.service.proofs.Calls.{answered_line}
 use Rattle.claims.specs.Rounds.{RoundRaises, RoundSettles}
+use Rattle.claims.proofs.Asking.{asks_answered, accepted_call, accepted_asks}
 use Rattle.claims.proofs.Declined.{declined_leaves}
-use Rattle.claims.proofs.Shifts.{accepted_asks, asking_kind}
 
 module _ (l : List ℕ) (b : List ℤ) (buffer : List ℕ) (known : new_kind (kind_of l) ≡ Ok kind.Round) (y : accepted (answer l b buffer).reply ≡ true) where
   asked : Asks l b Round (length buffer)
-  asked = asking_kind kind.Round (accepted_asks l b buffer y) known
+  asked = accepted_asks l b buffer kind.Round known y
 
   round_study : Study b
   round_study = study_ready asked refl
 
   answer_is : answer l b buffer ≡ operated kind.Round (direct_outcome b) b (kept b (directed b))
   unfolding requested
-  answer_is = answered_line l b buffer (accepted_asks l b buffer y).large asked.right ∙ fixed_line l b (length buffer) asked.fits asked.right Round refl asked.asked
+  answer_is = asks_answered l b buffer (accepted_call l b buffer y).0 asked ∙ fixed_line l b (length buffer) asked.fits asked.right Round refl asked.asked
 
   round_leaves : (answer l b buffer).block ≡ direct_block b
   round_leaves = rw answer_is (operated_leaves kind.Round (direct_outcome b) b (kept b (directed b)))

@@ -3,6 +3,7 @@ use mathlib.Core.Path.{◌≡◌, refl, ◌∙◌}
 use mathlib.Core.Bool.{true, false}
 use mathlib.Core.List.{List}
 use Prim.Native.Nat.{ℕ, ◌≤◌}
+use native.Mathlib.Omega.{arith}
 use lib.IntN.{ℤ}
 use lib.ListN.{length}
 use borrow.Author.Tests.{le-ltb, lt-ltb}
@@ -29,48 +30,61 @@ use Rattle.reader.specs.Reading.{kind_line, line_of}
 use Rattle.reader.proofs.LineAccepted.{line_makes}
 use Rattle.saving.proofs.Together.{save_framed, save_kind, save_again, save_study, save_as_loaded}
 use Rattle.saving.proofs.SavedLines.{save_read, save_after_line}
-use Rattle.replies.specs.Replies.{bound_reply}
+use Rattle.replies.specs.Replies.{bound_reply, longest_fixed}
 use Rattle.replies.proofs.Accepted.{bound_accepted}
-use Rattle.requests.specs.Answer.{answered, saved, requested, fitted}
+use Rattle.requests.specs.Answer.{answered, saved, requested, fitted, line_answer}
 use Rattle.requests.proofs.LineCases.{asked_line, fixed_line}
 use Rattle.service.specs.Answer.{min_buffer, answer}
-use Rattle.service.proofs.AnswerCases.{fixed_fit}
-use Rattle.service.proofs.Calls.{answered_line}
 use Rattle.claims.specs.Saves.{save_line, SavesAs, SaveAfterLoad, LoadAfterSave}
-use Rattle.claims.proofs.Shifts.{accepted_asks, asking_kind}
+use Rattle.claims.proofs.Asking.{asks_answered, accepted_call, accepted_asks}
 
 -- ---- a save
 
-save_asked : (b : List ℤ) → is_fresh b ≡ false → line_of save_line b ≡ Asked Save
+pub save_asked : (b : List ℤ) → is_fresh b ≡ false → line_of save_line b ≡ Asked Save
 unfolding save_line digit digit_of byte_at field field_digits all_digits framed pass new_kind study_line kind_line line_of
 save_asked b e = rw e
 
-module _ {b : List ℤ} (s : Study b) (buffer : List ℕ) (h : min_buffer ≤ length buffer) where
-  save_answer : answer save_line b buffer ≡ fitted (length buffer) b (saved b)
+module _ {b : List ℤ} (s : Study b) where
+  -- in any room and buffer
+  pub save_fitted : (room : ℕ) → line_answer save_line b room ≡ fitted room b (saved b)
   unfolding requested
-  save_answer = answered_line save_line b buffer h (study_well_formed s) ∙ asked_line save_line b (length buffer) Save (save_asked b (study_not_fresh s))
+  save_fitted room = asked_line save_line b room Save (save_asked b (study_not_fresh s))
 
-saves_as : {b : List ℤ} → Study b → {l : List ℕ} → load_digits (saved_numbers b) ≡ l → SavesAs b l
-saves_as {b} s e =
-    record {
-      given = λ d h k. save_answer s d h ∙ rw (e, le-ltb (length d) _ k);
-      late = λ d h k. save_answer s d h ∙ rw (e, lt-ltb (length d) _ k);
-    }
+  save_answer : (buffer : List ℕ) → min_buffer ≤ length buffer → answer save_line b buffer ≡ fitted (length buffer) b (saved b)
+  save_answer d h =
+      asks_answered save_line b d h (record { fits = omega (arith, h); right = study_well_formed s; asked = save_asked b (study_not_fresh s) }) ∙ save_fitted (length d)
+
+  saves_as : {l : List ℕ} → load_digits (saved_numbers b) ≡ l → SavesAs b l
+  saves_as e =
+      record {
+        given = λ d h k. save_answer d h ∙ rw (e, le-ltb (length d) _ k);
+        late = λ d h k. save_answer d h ∙ rw (e, lt-ltb (length d) _ k);
+      }
 
 -- ---- straight after an accepted load
 
--- what a line that asks for a load is answered
+-- what a line that asks for a load is answered, in any room and buffer
+pub load_given : (l : List ℕ) (b : List ℤ) (room : ℕ) → longest_fixed ≤ room → well_formed b ≡ true → line_of l b ≡ Asked (load_request l)
+    → line_answer l b room ≡ answered (loaded_block (numbers_of l)) (bound_reply kind.Load (loaded_block (numbers_of l)))
+unfolding requested
+load_given l b room h right e = fixed_line l b room h right (load_request l) refl e
+
 pub load_answer : (l : List ℕ) (b : List ℤ) (buffer : List ℕ) → min_buffer ≤ length buffer → well_formed b ≡ true → line_of l b ≡ Asked (load_request l)
     → answer l b buffer ≡ answered (loaded_block (numbers_of l)) (bound_reply kind.Load (loaded_block (numbers_of l)))
-unfolding requested
-load_answer l b d h right e = rw (answered_line l b d h right, fixed_line l b (length d) (fixed_fit d h) right (load_request l) refl e)
+load_answer l b d h right e =
+    let fits : longest_fixed ≤ length d = omega (arith, h) in
+    asks_answered l b d h (record { fits = fits; right = right; asked = e }) ∙ load_given l b (length d) fits right e
+
+-- the block of one has its study, and its line as the saved one
+pub load_saved : (l : List ℕ) (b : List ℤ) → line_of l b ≡ Asked (load_request l)
+    → Study (loaded_block (numbers_of l)) × (load_digits (saved_numbers (loaded_block (numbers_of l))) ≡ l)
+load_saved l b e = (load_study (load_in_range l (line_makes l b (load_request l) e).1.1), save_after_line l b _ e)
 
 pub save_after_load : SaveAfterLoad
 save_after_load l b d known y =
-    let w = accepted_asks l b d y in
-    let asked : line_of l b ≡ Asked (load_request l) = (asking_kind kind.Load w known).asked in
-    rw (load_answer l b d w.large w.asks.right asked)
-    (saves_as (load_study (load_in_range l (line_makes l b (load_request l) asked).1.1)) (save_after_line l b _ asked))
+    let a = accepted_asks l b d kind.Load known y in
+    let s = load_saved l b a.asked in
+    rw (load_answer l b d (accepted_call l b d y).0 a.right a.asked) (saves_as s.0 s.1)
 
 -- ---- a load of a saved line
 

@@ -1,7 +1,6 @@
 -- A shift line and the block afterwards, from the line's own characters: u_i and the moves are the numbers that stand at their offsets, and the block that an accepted line leaves
 -- has document 01's three equations by them, at permitted entries; forbidden ones stay. 12 is answered exactly where one of these numbers would be below 0 or above L.
-use Rattle.std.specs.Prelude.{Ok}
-use mathlib.Core.Path.{◌≡◌, refl, ap, ◌∙◌, subst}
+use mathlib.Core.Path.{◌≡◌, refl, ap, ◌∙◌}
 use mathlib.Core.Bool.{Bool, true, false}
 use mathlib.Core.List.{List}
 use mathlib.Core.Logic.{◌↔◌}
@@ -10,7 +9,7 @@ use lib.IntN.{ℤ, pos}
 use lib.ListN.{length}
 use Rattle.theory.proofs.Range.{not_both}
 use Rattle.theory.proofs.Lists.{list_nth}
-use Rattle.refusals.specs.declared.Refusal.TheVariants.{PartsOutside, Malformed}
+use Rattle.refusals.specs.declared.Refusal.TheVariants.{PartsOutside}
 use Rattle.refusals.specs.Verdicts.{Verdict, Declined, unless}
 use Rattle.tables.specs.Block.{constant_place, held_choice_place, held_entry_place, at, trains, pairs, size, first, second}
 use Rattle.tables.specs.WellFormed.{holds_study, Study}
@@ -23,56 +22,26 @@ use Rattle.shift.specs.Shift.{shifted, shift_outcome, shift_block}
 use Rattle.shift.specs.Equations.{constant_end, choice_end, entry_end, shift_ends}
 use Rattle.shift.proofs.Equations.{shift_forbidden, shift_declined, shift_ends_lem}
 use Rattle.frames.specs.Runs.{signed_run_of}
-use Rattle.lines.specs.declared.kind.Kind.{Kind}
 use Rattle.lines.specs.declared.kind.Kind.TheVariants as kind
 use Rattle.lines.specs.declared.request.Shift as declared-shift
 use Rattle.lines.specs.declared.request.Request.{Request}
 use Rattle.lines.specs.declared.request.Request.TheVariants.{Shift}
-use Rattle.lines.specs.Kinds.{kind_number, new_kind, request_kind}
+use Rattle.lines.specs.Kinds.{kind_number}
 use Rattle.lines.specs.Layout.{kind_of, move_width, shift_lift, shift_move, lift_field, move_field}
-use Rattle.lines.proofs.KindNumbers.{number_kind}
-use Rattle.kinds.specs.Lines.{kind_request}
 use Rattle.reader.proofs.LineAccepted.{Makes, line_makes}
-use Rattle.reader.proofs.LineKind.{line_known}
 use Rattle.replies.specs.Replies.{refusal_reply}
 use Rattle.replies.specs.Shown.{accepted}
-use Rattle.replies.proofs.Accepted.{empty_refused, refusal_refused, bound_accepted}
+use Rattle.replies.proofs.Accepted.{refusal_refused, bound_accepted}
 use Rattle.requests.specs.Answer.{operated, requested}
 use Rattle.requests.specs.Wrote.{Asks}
 use Rattle.requests.proofs.Outcomes.{operated_leaves, operated_done}
-use Rattle.requests.proofs.LineCases.{fixed_line, line_cases}
+use Rattle.requests.proofs.LineCases.{fixed_line}
 use Rattle.service.specs.Answer.{min_buffer, answer}
-use Rattle.service.proofs.AnswerCases.{fixed_fit, answer_cases}
-use Rattle.service.proofs.Calls.{answered_line}
+use Rattle.claims.proofs.Asking.{kind_known, asks_answered, accepted_call, accepted_asks}
 
 -- where a shift line's own numbers lead
 abbrev pub line_ends : List ℕ → List ℤ → Ends
 line_ends l b = shift_ends (shift_lift l) (shift_move l (trains b)) b
-
--- ---- a line that makes a request
-
-pub record Asking (l : List ℕ) (b : List ℤ) (buffer : List ℕ) : Type 0 where
-  pub large : min_buffer ≤ length buffer
-  pub request : Request
-  pub asks : Asks l b request (length buffer)
-
--- an accepted line makes one
-pub accepted_asks : (l : List ℕ) (b : List ℤ) (buffer : List ℕ) → accepted (answer l b buffer).reply ≡ true → Asking l b buffer
-accepted_asks l b buffer =
-    answer_cases l b buffer (λ a. accepted a.reply ≡ true → Asking l b buffer)
-    (λ h y. absurd (not_both y empty_refused))
-    (λ e y. absurd (not_both y (refusal_refused Malformed)))
-    (λ h e. line_cases l b (length buffer) (fixed_fit buffer h) e (λ a. accepted a.reply ≡ true → Asking l b buffer)
-    (λ r e y. absurd (not_both y (refusal_refused r)))
-    (λ q a f y. record { large = h; request = q; asks = a })
-    (λ q a f y. absurd (not_both y empty_refused)))
-
--- of a line of kind k it is the one of that kind
-pub asking_kind : (k : Kind) {l : List ℕ} {b : List ℤ} {buffer : List ℕ} (w : Asking l b buffer) → new_kind (kind_of l) ≡ Ok k → Asks l b (kind_request k l b) (length buffer)
-asking_kind k {l} {b} {buffer} w known =
-    let own = line_known l b w.request w.asks.asked in
-    let same : request_kind w.request ≡ k = cc in
-    subst (λ (r : Request). Asks l b r (length buffer)) ((line_makes l b w.request w.asks.asked).1.0 ∙ ap (λ (j : Kind). kind_request j l b) same) w.asks
 
 -- ---- a line that asks for a shift
 
@@ -92,7 +61,7 @@ module _ (l : List ℕ) (b : List ℤ) (buffer : List ℕ) (h : min_buffer ≤ l
   answer_is : answer l b buffer ≡ operated kind.Shift (shift_outcome lifts moves b) b (kept b (shifted lifts moves b))
   unfolding requested
   answer_is =
-      answered_line l b buffer h a.right
+      asks_answered l b buffer h a
       ∙ fixed_line l b (length buffer) a.fits a.right (Shift q) refl a.asked
       ∙ ap (λ (r : Request). requested r l b) made.0
 
@@ -131,9 +100,7 @@ module _ (l : List ℕ) (b : List ℤ) (buffer : List ℕ) (h : min_buffer ≤ l
 -- 'c0 grows by the sum of u_i', and the other two equations: the block that an accepted line of kind 03 leaves
 pub shift_line : (l : List ℕ) (b : List ℤ) (buffer : List ℕ) → kind_of l ≡ kind_number kind.Shift → accepted (answer l b buffer).reply ≡ true
     → SameEnds b (ends_of (answer l b buffer).block) (line_ends l b)
-shift_line l b buffer k y =
-    let w = accepted_asks l b buffer y in
-    asked_ends l b buffer w.large _ (asking_kind kind.Shift w (ap new_kind k ∙ number_kind kind.Shift)) y
+shift_line l b buffer k y = asked_ends l b buffer (accepted_call l b buffer y).0 _ (accepted_asks l b buffer kind.Shift (kind_known kind.Shift l k) y) y
 
 -- the three equations, each by itself, at permitted entries
 module _ (l : List ℕ) (b : List ℤ) (buffer : List ℕ) (k : kind_of l ≡ kind_number kind.Shift) (y : accepted (answer l b buffer).reply ≡ true) where
@@ -150,6 +117,4 @@ module _ (l : List ℕ) (b : List ℤ) (buffer : List ℕ) (k : kind_of l ≡ ki
 
   -- 'Forbidden entries stay so'
   pub shift_closed : Forbidden b (ends_of (answer l b buffer).block)
-  shift_closed =
-      let w = accepted_asks l b buffer y in
-      asked_forbidden l b buffer w.large _ (asking_kind kind.Shift w (ap new_kind k ∙ number_kind kind.Shift))
+  shift_closed = asked_forbidden l b buffer (accepted_call l b buffer y).0 _ (accepted_asks l b buffer kind.Shift (kind_known kind.Shift l k) y)

@@ -15,7 +15,7 @@ use Rattle.theory.proofs.Lists.{list_length, list_nth}
 use Rattle.theory.proofs.Order.{once_cong}
 use Rattle.theory.proofs.Range.{not_both}
 use Rattle.refusals.specs.declared.Refusal.{Refusal}
-use Rattle.refusals.specs.declared.Refusal.TheVariants.{CostAbove, PartsOutside, Sums, ForbiddenWeight, PairsAbove, Figures, Tries}
+use Rattle.refusals.specs.declared.Refusal.TheVariants.{CostAbove, PartsOutside, Sums, ForbiddenWeight, PairsAbove, Figures, Tries, WrongSum}
 use Rattle.refusals.specs.Verdicts.{Verdict, Fine, Declined, settled, unless}
 use Rattle.refusals.specs.Refusals.{refusal_number}
 use Rattle.tables.specs.Block.{max_trains, max_pairs, max_cost, max_parts, trains, scale, size, first, second, loaded_choice, held_choice}
@@ -86,9 +86,8 @@ use Rattle.requests.proofs.Records.{recorded_cases}
 use Rattle.requests.proofs.Dearest.{dearest_cases}
 use Rattle.requests.proofs.LineCases.{line_cases}
 use Rattle.saving.proofs.Together.{save_kind}
-use Rattle.service.specs.Answer.{answer}
+use Rattle.radio.specs.Forms.{as_plain}
 use Rattle.service.specs.Calls.{exchange}
-use Rattle.service.proofs.AnswerCases.{fixed_fit, answer_cases}
 use Rattle.claims.specs.Ledger.{Ledger, by_kind, changed, fed}
 use Rattle.claims.specs.Claims.{outside, figures, malformed, sizes_of, BoundClaim, Claim, shown_kind, never_outside, writes_record, AtCall}
 use Rattle.claims.proofs.ByKind.{by_kind_lem, kind_accepted}
@@ -97,6 +96,7 @@ use Rattle.claims.proofs.Keeps.{Keeps, open_in, bound_low, total_most, entry_mos
 use Rattle.claims.proofs.Kept.{load_keeps, judged_keeps, add-scaled, add_keeps, order_keeps}
 use Rattle.claims.proofs.Lines.{at_refused, at_accepted, refused_as, empty_shows, bound_claim, round_claim, ceiling_claim, Right, search_claim, explain_claim, order_claim}
 use Rattle.claims.proofs.OnePlan.{one_plan_holds}
+use Rattle.claims.proofs.PlainCalls.{plain_call, plain_outcome, plain_cases}
 use Rattle.claims.proofs.SaveClaims.{save_claim}
 use Rattle.claims.proofs.RecordClaims.{screen_right, planner_right, written_right, unwritten_forbidden}
 use Rattle.claims.proofs.DearestClaims.{dearest_claim}
@@ -149,6 +149,10 @@ allowed g l r o f m = record { not_outside = λ _ _. o; unwritten = λ _ q. absu
 -- 24
 pub tries_allowed : (g : Ledger) (l : List ℕ) → Allowed g l Tries
 tries_allowed g l = allowed g l Tries (λ q. omega arith) (λ q. omega arith) (λ q. omega arith)
+
+-- 25
+pub wrong_allowed : (g : Ledger) (l : List ℕ) → Allowed g l WrongSum
+wrong_allowed g l = allowed g l WrongSum (λ q. omega arith) (λ q. omega arith) (λ q. omega arith)
 
 -- what the reader declines
 pub line_allowed : (g : Ledger) (l : List ℕ) (b : List ℤ) (r : Refusal) → line_of l b ≡ Refused r → Allowed g l r
@@ -468,10 +472,7 @@ module _ {g : Ledger} {b : List ℤ} (k : Keeps g b) (l : List ℕ) where
       (λ q a f. let m = line_makes l b q a.asked in good_request q m.0 m.1 (line_known l b q a.asked))
       (λ q a f. good_empty)
 
-  -- a call on it
-  pub good_call : (buffer : List ℕ) → Good g b l (answer l b buffer)
-  good_call buffer =
-      answer_cases l b buffer (Good g b l)
-      (λ h. good_empty)
-      (λ e. absurd (not_both (study_well_formed k.study) e))
-      (λ h e. good_line (length buffer) (fixed_fit buffer h))
+-- a call on it, with the two additions removed
+pub good_call : {g : Ledger} {b : List ℤ} → Keeps g b → (l buffer : List ℕ) → Good g b (plain_call l b buffer).line (plain_outcome l b buffer)
+good_call {g} {b} k l buffer =
+    plain_cases l b buffer (study_well_formed k.study) (Good g b) (good_empty k (as_plain l)) (good_declined k (as_plain l) WrongSum (wrong_allowed g (as_plain l))) (good_line k (as_plain l))

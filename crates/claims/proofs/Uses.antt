@@ -4,7 +4,7 @@
 use Rattle.std.specs.Prelude.{Result, Ok, Err}
 use mathlib.Core.Path.{◌≡◌, refl, sym, ap, subst}
 use mathlib.Core.Bool.{true, false, cond, ◌&&◌}
-use mathlib.Core.List.{List, [], ◌∷◌}
+use mathlib.Core.List.{List, [], ◌∷◌, map}
 use mathlib.Core.Logic.{inl, inr, ⊎_elim}
 use Prim.Native.Nat.{ℕ, zero, suc, ◌<◌, ◌≤◌}
 use Prim.Native.String.{String}
@@ -30,8 +30,8 @@ use Rattle.bounds.specs.Bounds.{bound_of}
 use Rattle.clauses.specs.Clauses.{meets, failed, failed_weight}
 use Rattle.certificates.specs.Rival.{as_fraction, plus, times, sum_of, Same, AtMost, Rival, rival_total, IsRival, ConstantAtMost}
 use Rattle.weights.specs.Rival.{Amounts, given_of, Leaves, LiftsAtMost}
-use Rattle.frames.specs.Digits.{digit, byte_at}
-use Rattle.frames.specs.Fields.{field, signed}
+use Rattle.frames.specs.Digits.{digit, digit_of, byte_at}
+use Rattle.frames.specs.Fields.{field, signed, field_digits}
 use Rattle.frames.specs.Frames.{all_digits, framed}
 use Rattle.frames.specs.Text.{codes}
 use Rattle.lines.specs.declared.kind.Kind.{Kind}
@@ -50,11 +50,12 @@ use Rattle.search.specs.Ordered.{searched}
 use Rattle.search.specs.Answer.{shown, search_answer}
 use Rattle.search.specs.Stops.{Sooner, searched_on}
 use Rattle.replies.specs.Shown.{accepted, bound_shown}
-use Rattle.requests.specs.Answer.{line_answer}
+use Rattle.radio.specs.Answer.{form_answer}
+use Rattle.radio.specs.Forms.{is_radio, plain_line, plain_reply}
 use Rattle.service.specs.Answer.{min_buffer, answer}
-use Rattle.service.specs.Calls.{Call, Exchange, exchange, last_block, exchanges}
-use Rattle.service.proofs.Calls.{answered_line}
-use Rattle.claims.specs.Ledger.{Ledger, numbers_ledger, empty_ledger, fed, ledger_of, cost_of, has_load}
+use Rattle.service.specs.Calls.{Call, Exchange, exchange, last_block}
+use Rattle.service.proofs.Calls.{answered_form}
+use Rattle.claims.specs.Ledger.{Ledger, numbers_ledger, empty_ledger, plain_exchange, plain_exchanges, fed, ledger_of, cost_of, has_load}
 use Rattle.claims.specs.Claims.{PlanOf, DeclinedAs, scaled_cost, start_costs, BoundClaim, AtLine, AtCall, EachCall, AfterList, Claimed}
 use Rattle.claims.specs.OnePlan.{choice_weight, entry_weight, OnePlan}
 use Rattle.claims.specs.Declined.{RefusedDeclines}
@@ -66,7 +67,7 @@ use Rattle.claims.proofs.Seen.{seen_demand}
 
 -- a line and its reply, to be computed: whoever opens this name opens each definition on the way from characters to the ledger's costs
 unfoldable pub told : String → String → Exchange
-unfolding codes digit byte_at field list_from pair_at entries_of numbers_of permits paid sum choice_total pair_total total accepted new_kind fed ledger_of has_load
+unfolding codes digit byte_at field list_from pair_at entries_of numbers_of permits paid sum choice_total pair_total total accepted new_kind is_radio fed ledger_of has_load
 told l r = exchange (codes l) (codes r)
 
 -- 'J is the first line above, loaded': by its ledger the plans 00, 01, 10 and 11 cost 3, 2, 3 and 2
@@ -533,14 +534,21 @@ module _ {b₀ b₁ b₂ b₃ b : List ℤ} (d : Claimed (b₀ ∷ b₁ ∷ b₂
   unfolding told load j plan
   j_bound = after.bound (plan 0 1) plan_01
 
--- a call on the block that a list left is answered by its line: never with 16
-next_line_lem : {bs : List (List ℤ)} {es : List Exchange} {b : List ℤ} → Claimed bs es b → (l buffer : List ℕ) → min_buffer ≤ length buffer → answer l b buffer ≡ line_answer l b (length buffer)
-next_line_lem {b = b} d l buffer h = answered_line l b buffer h d.right
+-- a call on the block that a list left is answered by its line, in either form: never with 16
+next_line_lem : {bs : List (List ℤ)} {es : List Exchange} {b : List ℤ} → Claimed bs es b → (l buffer : List ℕ) → min_buffer ≤ length buffer → answer l b buffer ≡ form_answer l b (length buffer)
+next_line_lem {b = b} d l buffer h = answered_form l b buffer h d.right
+
+-- ---- what the ledger is fed of a second form
+
+-- J loaded by radio is fed as J loaded
+fed_by_radio : plain_exchange (told "410200010202000002000000000000000000010001000001000000000003000002AE" "C10000000000000000000000003F") ≡ told load "81000000000000000000000000"
+unfolding told load digit_of field_digits pass all_digits framed plain_line plain_reply
+fed_by_radio = refl
 
 -- ---- what a caller saw
 
--- J and its tightening were answered as in the session, by calls that met the contract: no plan of J costs less than 2
-seen_bound : (s t : Seen) → Chained fresh_block (s ∷ t ∷ []) → seen_exchanges (s ∷ t ∷ []) ≡ take 2 session → (x : ℕ → ℕ) → PlanOf j x → 2 ≤ cost_of j x
+-- J and its tightening were answered as in the session, in either form, by calls that met the contract: no plan of J costs less than 2
+seen_bound : (s t : Seen) → Chained fresh_block (s ∷ t ∷ []) → map plain_exchange (seen_exchanges (s ∷ t ∷ [])) ≡ take 2 session → (x : ℕ → ℕ) → PlanOf j x → 2 ≤ cost_of j x
 unfolding told load j session EachCall seen_blocks
 seen_bound s t c e = let d : EachCall empty_ledger (s.block ∷ t.block ∷ []) (take 2 session) = subst (EachCall empty_ledger (s.block ∷ t.block ∷ [])) e (seen_demand (s ∷ t ∷ []) c).each in
     says_2 (own_claim (d.1.0.line refl) Tighten refl refl) refl
@@ -548,7 +556,7 @@ seen_bound s t c e = let d : EachCall empty_ledger (s.block ∷ t.block ∷ []) 
 -- ---- what is said of searches, of declined calls and of rounds beside demand 3
 
 -- after J and its tightening a search knows the plan that document 01's walk knows, by no more tries, and has ended where that has; and where its best does not cost the bound its answer is that walk's
-module _ (sooner : SearchesSooner) (calls : List Call) (e : exchanges fresh_block calls ≡ take 2 session) (budget : ℕ) where
+module _ (sooner : SearchesSooner) (calls : List Call) (e : plain_exchanges fresh_block calls ≡ take 2 session) (budget : ℕ) where
   abbrev here : List ℤ
   here = last_block fresh_block calls
 

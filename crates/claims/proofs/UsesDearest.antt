@@ -33,8 +33,8 @@ use Rattle.reader.specs.Reading.{kind_line, line_of}
 use Rattle.reader.proofs.LineAccepted.{line_makes}
 use Rattle.reader.proofs.LineKind.{line_kind}
 use Rattle.service.specs.Answer.{min_buffer, answer}
-use Rattle.service.specs.Calls.{Call, Exchange, exchanges}
-use Rattle.claims.specs.Ledger.{Ledger}
+use Rattle.service.specs.Calls.{Call, Exchange}
+use Rattle.claims.specs.Ledger.{Ledger, plain_exchanges}
 use Rattle.claims.specs.Claims.{sizes_of, DearestClaim, AtLine}
 use Rattle.claims.specs.Dearest.{EndsInSearch, TriesAtMost, LoadsDearest, DearestReached}
 use Rattle.claims.specs.Rooms.{last_exchange, block_after}
@@ -91,7 +91,7 @@ unfolding told product tries_from
 six_tries sizes e = tries_of_cong 2 sizes (λ i. 2) e
 
 -- and no search shows seven tries
-fewer_tries : TriesAtMost → (calls : List Call) → exchanges fresh_block calls ≡ told j_line "81000000000000000000000000" ∷ told "060000000A" "8601000000070000000000020001" ∷ []
+fewer_tries : TriesAtMost → (calls : List Call) → plain_exchanges fresh_block calls ≡ told j_line "81000000000000000000000000" ∷ told "060000000A" "8601000000070000000000020001" ∷ []
     → trains (block_after calls) ≡ 2 → ((i : ℕ) → i < 2 → size (block_after calls) i ≡ 2) → ((d : ℕ) → d < 2 → order (block_after calls) d ≡ d) → ⊥
 unfolding told last_exchange
 fewer_tries most calls e n sizes own =

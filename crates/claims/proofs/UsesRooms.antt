@@ -13,8 +13,8 @@ use Rattle.tables.specs.WellFormed.{is_open, fresh_block, Study}
 use Rattle.tables.specs.Plans.{Open}
 use Rattle.tables.proofs.Study.{trains_range, pairs_range, size_range, first-below-trains, second-below-trains, SameShape, same_trains, same_scale, same_pairs, same_size, same_first, same_second}
 use Rattle.operations.specs.Saved.{SameLoaded}
-use Rattle.service.specs.Calls.{Call, Exchange, exchanges}
-use Rattle.claims.specs.Ledger.{Ledger}
+use Rattle.service.specs.Calls.{Call, Exchange}
+use Rattle.claims.specs.Ledger.{Ledger, plain_exchanges}
 use Rattle.claims.specs.Claims.{SameStudy}
 use Rattle.claims.specs.Rooms.{EqualStudies, says_reached, last_exchange, last_of, block_after, BothReached, RoomsAgree}
 use Rattle.claims.proofs.Uses.{told}
@@ -38,8 +38,8 @@ second_room r =
     ∷ told "05000004000002000002000002000002000002000002000000000002000002000000000000000002000002000000000000000002000002000000" r
     ∷ []
 
-module _ (agree : RoomsAgree) (calls more : List Call) (e : exchanges fresh_block calls ≡ first_room) (same : EqualStudies (block_after calls) (block_after more)) where
-  both_reached : (r : String) → says_reached (last_exchange (second_room r)) ≡ true → exchanges fresh_block more ≡ second_room r → BothReached calls more
+module _ (agree : RoomsAgree) (calls more : List Call) (e : plain_exchanges fresh_block calls ≡ first_room) (same : EqualStudies (block_after calls) (block_after more)) where
+  both_reached : (r : String) → says_reached (last_exchange (second_room r)) ≡ true → plain_exchanges fresh_block more ≡ second_room r → BothReached calls more
   unfolding told first_room last_exchange
   both_reached r y f =
       record {
@@ -49,7 +49,7 @@ module _ (agree : RoomsAgree) (calls more : List Call) (e : exchanges fresh_bloc
       }
 
   -- E of 3 where W is 4: a ceiling of three quarters of a part
-  equal_ceilings : exchanges fresh_block more ≡ second_room "85010000000000000003000004" → ⊥
+  equal_ceilings : plain_exchanges fresh_block more ≡ second_room "85010000000000000003000004" → ⊥
   unfolding told first_room second_room last_exchange
   equal_ceilings f =
       let w = agree calls more (both_reached "85010000000000000003000004" refl f) in
@@ -57,7 +57,7 @@ module _ (agree : RoomsAgree) (calls more : List Call) (e : exchanges fresh_bloc
       omega (arith, h)
 
   -- constants of 1 and of 2 parts
-  equal_constants : exchanges fresh_block more ≡ second_room "85010000000000000004000004" → constant (block_after calls) ≡ 1 → constant (block_after more) ≡ 2 → ⊥
+  equal_constants : plain_exchanges fresh_block more ≡ second_room "85010000000000000004000004" → constant (block_after calls) ≡ 1 → constant (block_after more) ≡ 2 → ⊥
   unfolding told second_room last_exchange
   equal_constants f p q = omega (arith, (agree calls more (both_reached "85010000000000000004000004" refl f)).constants, p, q)
 

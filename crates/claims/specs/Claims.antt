@@ -23,8 +23,8 @@ use Rattle.decoding.specs.Clauses.{clauses_of}
 use Rattle.reader.specs.Reading.{line_of}
 use Rattle.replies.specs.Replies.{choice_width, refusal_byte, reply_kind, flag}
 use Rattle.replies.specs.Shown.{kind_shown, accepted, number_shown, constant_shown, bound_shown, flag_shown, weighted_shown, full_weight_shown, says_ended, says_ended_without, cost_shown, plan_shown, shows_plan, reason_shown, train_shown, order_shown}
-use Rattle.service.specs.Calls.{Call, Exchange, last_block, blocks, exchanges}
-use Rattle.claims.specs.Ledger.{Ledger, numbers_ledger, by_kind, fed, ledger_of, empty_ledger, cost_of, has_load}
+use Rattle.service.specs.Calls.{Call, Exchange, last_block, blocks}
+use Rattle.claims.specs.Ledger.{Ledger, numbers_ledger, by_kind, plain_exchanges, fed, ledger_of, empty_ledger, cost_of, has_load}
 use Rattle.claims.specs.OnePlan.{OnePlan}
 
 -- the sizes of a line of kind 0F
@@ -325,6 +325,6 @@ pub record Claimed (bs : List (List ℤ)) (es : List Exchange) (b : List ℤ) : 
   pub after : has_load es ≡ true → AfterList (ledger_of empty_ledger es) b
   pub each : EachCall empty_ledger bs es
 
--- demand 3 of a list of calls: 'the first has a fresh block'
+-- demand 3 of a list of calls: 'the first has a fresh block'. Document 02, change 14: they 'hold every kind in either form'
 abbrev pub Demand : List Call → Type 0
-Demand calls = Claimed (blocks fresh_block calls) (exchanges fresh_block calls) (last_block fresh_block calls)
+Demand calls = Claimed (blocks fresh_block calls) (plain_exchanges fresh_block calls) (last_block fresh_block calls)

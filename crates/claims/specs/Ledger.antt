@@ -1,6 +1,6 @@
 -- Document 01, 'Lists and the ledger': what the ledger knows of a list of lines, each with its reply.
 use Rattle.refusals.specs.declared.Refusal.{Refusal}
-use Rattle.std.specs.Prelude.{Bool, true, false, cond, ◌&&◌, List, [], ◌∷◌, ℕ, ◌+◌, eqb, Result, Ok, Err}
+use Rattle.std.specs.Prelude.{Bool, true, false, cond, ◌&&◌, List, [], ◌∷◌, map, ℕ, ◌+◌, eqb, ℤ, Result, Ok, Err}
 use Rattle.tables.specs.WellFormed.{fresh_block}
 use Rattle.tables.specs.Numbers.{Numbers, numbers, numbers_shape, numbers_costs}
 use Rattle.tables.specs.Plans.{Shape, Costs, total}
@@ -11,7 +11,8 @@ use Rattle.lines.specs.Layout.{kind_of, add_train, add_choice, add_points}
 use Rattle.decoding.specs.Numbers.{numbers_of}
 use Rattle.decoding.specs.Clauses.{clause_numbers_of}
 use Rattle.replies.specs.Shown.{accepted}
-use Rattle.service.specs.Calls.{Call, Exchange, exchanges}
+use Rattle.radio.specs.Forms.{is_radio, plain_line, plain_reply}
+use Rattle.service.specs.Calls.{Call, Exchange, exchange, exchanges}
 
 -- what the ledger knows: n, sizes and pairs, and which choices and pairs of choices are forbidden; s; costs in points, with no constant, and 0 for what is forbidden
 pub record Ledger : Type 0 where
@@ -92,6 +93,14 @@ loads Dearest = false
 
 -- ---- lists of lines with their replies
 
+-- document 02, change 14: a second form and its reply 'with the two additions removed' (`fed_by_radio` in proofs/Uses.antt); a plain line and its reply as they are
+abbrev pub plain_exchange : Exchange → Exchange
+plain_exchange e = cond (is_radio e.line) (exchange (plain_line e.line) (plain_reply e.reply)) e
+
+-- 'Lists of lines hold every kind in either form': what the ledger is fed, and what is claimed, is of plain lines
+abbrev pub plain_exchanges : List ℤ → List Call → List Exchange
+plain_exchanges b calls = map plain_exchange (exchanges b calls)
+
 -- 'The ledger is fed the lines in order, each with its reply, and nothing of the block': of a refused line 'nothing changes'
 unfoldable pub fed : Exchange → Ledger → Ledger
 fed e g = cond (accepted e.reply) (by_kind (λ k. changed k e.line g) g e.line) g
@@ -102,7 +111,7 @@ ledger_of g (e ∷ es) = ledger_of (fed e g) es
 
 -- the ledger of a list of calls from a fresh block
 abbrev pub ledger_after : List Call → Ledger
-ledger_after calls = ledger_of empty_ledger (exchanges fresh_block calls)
+ledger_after calls = ledger_of empty_ledger (plain_exchanges fresh_block calls)
 
 -- 'A plan's cost is the sum of the ledger's costs for its choices and its pairs, in points'
 abbrev pub cost_of : Ledger → (ℕ → ℕ) → ℕ

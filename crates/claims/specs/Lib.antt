@@ -13,4 +13,5 @@ pub mod Orders
 pub mod Records
 pub mod Rooms
 pub mod Dearest
+pub mod Radio
 pub mod Declined

@@ -8,7 +8,8 @@ use Rattle.lines.specs.declared.kind.Kind.TheVariants.{Certify}
 use Rattle.lines.specs.Kinds.{kind_number}
 use Rattle.lines.specs.Layout.{kind_of}
 use Rattle.replies.specs.Shown.{accepted, flag_shown, weighted_shown, full_weight_shown}
-use Rattle.service.specs.Calls.{Call, Exchange, exchange, last_block, exchanges}
+use Rattle.service.specs.Calls.{Call, Exchange, exchange, last_block}
+use Rattle.claims.specs.Ledger.{plain_exchanges}
 
 -- 'leave equal n, sizes, pairs, H and s', at the places that are used; −1 is a number like any other
 pub record EqualStudies (b c : List ℤ) : Type 0 where
@@ -31,9 +32,9 @@ last_exchange [] = exchange [] []
 last_exchange (e ∷ []) = e
 last_exchange (e ∷ d ∷ es) = last_exchange (d ∷ es)
 
--- of a list of calls from the fresh block: its last line with its reply, and the block that it leaves
+-- of a list of calls from the fresh block: its last line with its reply, either 'with the two additions removed', and the block that it leaves
 abbrev pub last_of : List Call → Exchange
-last_of calls = last_exchange (exchanges fresh_block calls)
+last_of calls = last_exchange (plain_exchanges fresh_block calls)
 
 abbrev pub block_after : List Call → List ℤ
 block_after calls = last_block fresh_block calls

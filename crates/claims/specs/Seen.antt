@@ -1,9 +1,10 @@
 -- What callers of the entry see: a list of calls, each of which meets the entry's contract, each on the block that the one before left.
-use Rattle.std.specs.Prelude.{◌≡◌, List, [], ◌∷◌, ℕ, ℤ, take}
+use Rattle.std.specs.Prelude.{◌≡◌, List, [], ◌∷◌, map, ℕ, ℤ, take}
 use Rattle.tables.specs.WellFormed.{fresh_block}
 use Rattle.requests.specs.Wrote.{Answers}
 use Rattle.service.specs.Answer.{answer}
 use Rattle.service.specs.Calls.{Exchange, exchange}
+use Rattle.claims.specs.Ledger.{plain_exchange}
 use Rattle.claims.specs.Claims.{Claimed}
 
 -- one call: what went in, and what came out
@@ -38,4 +39,4 @@ seen_last b (s ∷ ss) = seen_last s.block_after ss
 
 -- demand 3 of what a caller saw, from a fresh block: all that `Demand` claims (`seen_bound` in proofs/Uses.antt)
 abbrev pub SeenDemand : List Seen → Type 0
-SeenDemand seen = Claimed (seen_blocks seen) (seen_exchanges seen) (seen_last fresh_block seen)
+SeenDemand seen = Claimed (seen_blocks seen) (map plain_exchange (seen_exchanges seen)) (seen_last fresh_block seen)

@@ -7,8 +7,8 @@ use Rattle.tables.specs.Block.{constant}
 use Rattle.tables.specs.WellFormed.{fresh_block}
 use Rattle.tables.specs.Counts.{rows_of, columns_of}
 use Rattle.bounds.specs.Bounds.{bound_of}
-use Rattle.service.specs.Calls.{Call, last_block, exchanges}
-use Rattle.claims.specs.Ledger.{Ledger, ledger_after, has_load}
+use Rattle.service.specs.Calls.{Call, last_block}
+use Rattle.claims.specs.Ledger.{Ledger, plain_exchanges, ledger_after, has_load}
 
 -- v is a cost of the ledger: 'all loaded costs as H now holds them, additions included, forbidden entries left out'
 pub data LoadedCost (g : Ledger) : ℕ → Type 0 where
@@ -35,4 +35,4 @@ pub record InSteps (g : Ledger) (b : List ℤ) : Type 0 where
 -- of every list with an accepted load
 abbrev pub BoundsInSteps : Type 0
 BoundsInSteps =
-    (calls : List Call) → has_load (exchanges fresh_block calls) ≡ true → InSteps (ledger_after calls) (last_block fresh_block calls)
+    (calls : List Call) → has_load (plain_exchanges fresh_block calls) ≡ true → InSteps (ledger_after calls) (last_block fresh_block calls)

@@ -4,12 +4,12 @@ use Rattle.std.specs.Prelude.{◌≡◌, true, List, ℕ}
 use Rattle.tables.specs.WellFormed.{fresh_block}
 use Rattle.search.specs.Ordered.{searched}
 use Rattle.search.specs.Stops.{Sooner, searched_on}
-use Rattle.service.specs.Calls.{Call, last_block, exchanges}
-use Rattle.claims.specs.Ledger.{has_load}
+use Rattle.service.specs.Calls.{Call, last_block}
+use Rattle.claims.specs.Ledger.{plain_exchanges, has_load}
 
 -- 'Old answers that change after lines from fresh: ended searches that met the bound early count fewer tries, and some spent ones end', and no others: beside the walk that no bound ends, at every budget
 -- (`same_plan`, `no_more_tries`, `ends_too` and `unmet_alike` in proofs/Uses.antt)
 abbrev pub SearchesSooner : Type 0
 SearchesSooner =
-    (calls : List Call) → has_load (exchanges fresh_block calls) ≡ true
+    (calls : List Call) → has_load (plain_exchanges fresh_block calls) ≡ true
     → (budget : ℕ) → Sooner (searched (last_block fresh_block calls) budget) (searched_on (last_block fresh_block calls) budget)

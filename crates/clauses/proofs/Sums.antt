@@ -1,16 +1,10 @@
--- More laws of sums: in two parts, by rows, and where few terms count. Each is one induction, or `sum_one` against the sum of zeros.
+-- More laws of sums: by rows, and where few terms count. Each is one induction, or `sum_one` against the sum of zeros.
 use mathlib.Core.Path.{◌≡◌, ap}
 use Prim.Native.Nat.{ℕ, zero, suc, ◌+◌, ◌*◌, ◌-◌, ◌<◌, ◌≤◌}
-use native.Mathlib.Nat.{add-zero, add-suc, mul-zero, mul-suc}
+use native.Mathlib.Nat.{mul-zero, mul-suc}
 use native.Mathlib.Omega.{arith}
 use Rattle.theory.specs.Sum.{sum}
-use Rattle.theory.proofs.Sum.{sum_cong, sum-zero, sum_one}
-
--- the front and the rest
-sum_split : (m n : ℕ) (f : ℕ → ℕ) → sum (m + n) f ≡ sum m f + sum n (λ k. f (m + k))
-unfolding sum
-sum_split m zero f = rw (add-zero m) (omega arith)
-sum_split m (suc n) f = rw add-suc (omega (arith, sum_split m n f))
+use Rattle.theory.proofs.Sum.{sum_cong, sum_split, sum-zero, sum_one}
 
 -- n rows of w terms each
 pub sum_rows : (w n : ℕ) (f : ℕ → ℕ) → sum (w * n) f ≡ sum n (λ i. sum w (λ a. f (w * i + a)))

@@ -2,11 +2,10 @@
 use mathlib.Core.Path.{◌≡◌, refl}
 use mathlib.Core.Bool.{true}
 use mathlib.Core.List.{List, []}
-use Prim.Native.Nat.{ℕ, zero, suc, ◌+◌, ◌*◌, ◌%◌, ◌<◌, ◌≤◌}
+use Prim.Native.Nat.{ℕ, zero, suc, ◌+◌, ◌*◌, ◌<◌, ◌≤◌}
 use native.Mathlib.Nat.{add-zero, mul-le-mul}
 use native.Mathlib.Omega.{arith}
 use lib.ListN.{length}
-use borrow.Author.Tests.{eq-eqb, ne_eqb}
 use Rattle.theory.specs.Lists.{nth}
 use Rattle.theory.specs.Range.{pass}
 use Rattle.theory.proofs.Sum.{sum_none, sum_more, sum_most}
@@ -15,7 +14,8 @@ use Rattle.tables.specs.Counts.{entries_before}
 use Rattle.tables.specs.Numbers.{Numbers, numbers_shape, InRange}
 use Rattle.frames.specs.Fields.{field_digits}
 use Rattle.frames.specs.Runs.{run_digits}
-use Rattle.frames.specs.Frames.{max_characters, all_digits, framed, Framed}
+use Rattle.frames.specs.Frames.{max_characters, all_digits, Framed}
+use Rattle.frames.proofs.Parts.{make_framed}
 use Rattle.frames.proofs.RoundTrip.{digits-length, digits-digits}
 use Rattle.frames.proofs.RunDigits.{run_length, run_digits_lem}
 use Rattle.lines.specs.declared.kind.Kind.TheVariants.{Load}
@@ -100,18 +100,15 @@ module _ {x : Numbers} (r : InRange x) where
   pub load_longest : length (load_digits x) ≤ 2 * line_bytes max_trains (max_trains * max_choices) max_pairs (max_pairs * entries_of_pair)
   load_longest = omega (arith, load_length, choices_most, entries_most, r.trains.1, r.pairs.0)
 
-  -- 'over 19,834 characters' is none of them
+  -- none of them is over the limit in 2
   pub load_most : length (load_digits x) ≤ max_characters
   load_most = omega (arith, load_longest)
 
   -- a load line of numbers in range is a frame
   pub load_framed : Framed (load_digits x) (load_bytes x)
-  unfolding framed
   load_framed =
-      let n = length (load_digits x) in
-      let even : n % 2 ≡ 0 = omega (arith, load_length) in
       record {
-        digits = rw (ne_eqb n 0 (λ e. omega (arith, load_length)), eq-eqb (n % 2) 0 even, load_digits_lem x);
+        digits = make_framed (load_digits x) (omega (arith, load_length)) (omega (arith, load_length)) (load_digits_lem x);
         whole = omega (arith, load_length);
         short = load_most;
       }

@@ -1,13 +1,13 @@
--- Document 01, 'Lines': 'A line is an even number, at least 2, of digits', at most 19,834 characters.
+-- Document 01, 'Lines': 'A line is an even number, at least 2, of digits'; document 02, change 14: at most 19,836 characters.
 use Rattle.std.specs.Prelude.{◌≡◌, Bool, true, cond, ◌&&◌, not, List, ℕ, ◌%◌, ◌≤◌, ltb, eqb, length}
 use Rattle.theory.specs.Range.{pass}
 use Rattle.refusals.specs.declared.Refusal.TheVariants.{Characters, TooLong}
 use Rattle.refusals.specs.Verdicts.{Verdict, Fine, Declined}
 use Rattle.frames.specs.Digits.{no_digit, digit, bytes}
 
--- 2: 'over 19,834 characters'
+-- 2: 'The limit in 2 becomes 19,836 characters', two more than a full load has
 abbrev pub max_characters : ℕ
-max_characters = 19834
+max_characters = 19836
 
 abbrev pub is_digit : ℕ → Bool
 is_digit c = not (eqb (digit c) no_digit)

@@ -16,7 +16,7 @@ pub struct Frame<'a> {
 
 impl<'a> Frame<'a> {
     // The most characters of a line.
-    pub const CHARACTERS: usize = 19834;
+    pub const CHARACTERS: usize = 19836;
 
     // The frame that the line is, or why it is none: over so many characters, or empty, of an odd count or with another character.
     // A constructor and no `TryFrom`: document 01's Forms ask for one, with the limit beside it.

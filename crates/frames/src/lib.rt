@@ -1,6 +1,7 @@
-// Lines as digits: bytes, fields, runs of fields, and frames.
+// Lines as digits: bytes and their sum, fields, runs of fields, and frames.
 #![tactic(auto)]
 
+pub mod byte_sum;
 pub mod digits;
 pub mod fields;
 pub mod frame;

@@ -1,4 +1,4 @@
--- A kind and its number determine each other, and the number is low. A law of every kind has one clause for one kind and one for the others, which is checked for each of them.
+-- A kind and its number determine each other, and the number is above 0 and low. A law of every kind has one clause for one kind and one for the others, which is checked for each of them.
 use mathlib.Core.Path.{◌≡◌, refl, ◌∙◌, ap}
 use mathlib.Core.Bool.{Bool, true, false, cond}
 use mathlib.Core.List.{List, [], ◌∷◌}
@@ -35,7 +35,12 @@ module _ (n : ℕ) (k : Kind) where
   unfolding new_kind
   kind_number_lem = among_number all_kinds
 
--- so low that the reply to a line of this kind, whose first byte is 128 higher, is no refusal
-pub number_low : (k : Kind) → kind_number k < 127
+-- 0 is no kind's number
+pub number_some : (k : Kind) → 0 < kind_number k
+number_some Load = omega arith
+number_some k = omega arith
+
+-- so low that the reply to a line of this kind, whose first byte is 128 higher, is no refusal, with 40 hexadecimal added too
+pub number_low : (k : Kind) → kind_number k < 63
 number_low Load = omega arith
 number_low k = omega arith

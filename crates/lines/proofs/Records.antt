@@ -3,11 +3,10 @@
 use mathlib.Core.Path.{◌≡◌, refl, sym, ap, ◌∙◌}
 use mathlib.Core.Bool.{true}
 use mathlib.Core.List.{List, [], ◌++◌}
-use Prim.Native.Nat.{ℕ, ◌+◌, ◌*◌, ◌%◌, ◌<◌, ◌^◌}
+use Prim.Native.Nat.{ℕ, ◌+◌, ◌*◌, ◌<◌, ◌^◌}
 use native.Mathlib.Omega.{arith}
 use lib.ListN.{length, take, drop}
 use lib.Seq.{take_at, drop-length}
-use borrow.Author.Tests.{eq-eqb, ne_eqb}
 use Rattle.theory.specs.Lists.{nth}
 use Rattle.theory.specs.Range.{pass}
 use Rattle.theory.proofs.Lists.{list_length, list_is}
@@ -16,6 +15,7 @@ use Rattle.frames.specs.Fields.{field_digits}
 use Rattle.frames.specs.Runs.{run_of, run_digits}
 use Rattle.frames.specs.Frames.{all_digits, framed, Framed}
 use Rattle.frames.proofs.Bytes.{Whole, framed_whole}
+use Rattle.frames.proofs.Parts.{make_framed}
 use Rattle.frames.proofs.RoundTrip.{digits_append, digits-length, digits-digits}
 use Rattle.frames.proofs.RunDigits.{run_append, run_length, run_digits_lem, run_list}
 use Rattle.frames.proofs.Stands.{Stands, stands_whole, stands_field, past_field, stands_run, past_run}
@@ -117,12 +117,9 @@ module _ (v : ℕ) (choices : List ℕ) (bound cost : ℕ) where
 
   -- a frame
   pub record_framed : length choices < 256 → Framed record_text (kind_width + record_bytes (length choices))
-  unfolding framed
   record_framed h =
-      let n = length record_text in
-      let even : n % 2 ≡ 0 = omega (arith, record_text_length) in
       record {
-        digits = rw (ne_eqb n 0 (λ e. omega (arith, record_text_length)), eq-eqb (n % 2) 0 even, record_text_digits);
+        digits = make_framed record_text (omega (arith, record_text_length)) (omega (arith, record_text_length)) record_text_digits;
         whole = sym record_text_bytes;
         short = omega (arith, record_text_length);
       }

@@ -86,7 +86,7 @@ abbrev pub Makes : List ℕ → List ℤ → Request → Type 0
 Makes l b q = (q ≡ kind_request (request_kind q) l b) × (kind_verdict (request_kind q) l b ≡ Fine) × (needs_study (request_kind q) && is_fresh b ≡ false)
 
 module _ (l : List ℕ) (b : List ℤ) (q : Request) where
-  -- an accepted line is a frame, of at most 19,834 characters, and makes its request
+  -- an accepted line is a frame, of at most 19,836 characters, and makes its request
   pub line_makes : line_of l b ≡ Asked q → Framed l (bytes l) × Makes l b q
   line_makes e =
       let a = line_accepted l b q e in (

@@ -1,5 +1,5 @@
--- Under which numbers the reader declines a line: never under 10, 12, 14, 23 or 24, which are judged once a line is read, nor under 16, which is judged before. Each verdict is made of fields, runs
--- of fields and ends, in turn; each of these declines under 5 or under the number that its rule names.
+-- Under which numbers the reader declines a line: never under 10, 12, 14, 23 or 24, which are judged once a line is read, nor under 16 or 25, which are judged before.
+-- Each verdict is made of fields, runs of fields and ends, in turn; each of these declines under 5 or under the number that its rule names.
 use mathlib.Core.Path.{◌≡◌, refl, subst}
 use mathlib.Core.Bool.{Bool, true, false, cond, ◌&&◌, ◌||◌, not}
 use mathlib.Core.List.{List, [], ◌∷◌}
@@ -36,9 +36,9 @@ use Rattle.kinds.specs.Dearest.{dearest_verdict}
 use Rattle.kinds.specs.Lines.{choice_verdict, add_verdict, shift_verdict, certify_verdict, search_verdict, explain_verdict, order_verdict, concluded, kind_verdict, study_line}
 use Rattle.reader.specs.Reading.{new_kind_line, kind_line, framed_line, line_of}
 
--- 'Order: 17, 16, .. Then fields .. Then 10, 12 or 14', and document 02, change 11, 23, and change 13, 24: the numbers that reading a line gives are the others
+-- 'Order: 17, 16, .. Then fields .. Then 10, 12 or 14', and document 02, change 11, 23, change 13, 24, and change 14, 25: the numbers that reading a line gives are the others
 abbrev pub of_reading : ℕ → Bool
-of_reading n = not (eqb n 10 || eqb n 12 || eqb n 14 || eqb n 16 || eqb n 23 || eqb n 24)
+of_reading n = not (eqb n 10 || eqb n 12 || eqb n 14 || eqb n 16 || eqb n 23 || eqb n 24 || eqb n 25)
 
 abbrev Own : Refusal → Type 0
 Own r = of_reading (refusal_number r) ≡ true
@@ -246,6 +246,6 @@ module _ (l : List ℕ) (b : List ℤ) where
       go (Ok _) o = own_kind
       go (Err r) o = o
 
-  -- the reader declines a line under none of 10, 12, 14, 16, 23 and 24
+  -- the reader declines a line under none of 10, 12, 14, 16, 23, 24 and 25
   pub line_refused : (r : Refusal) → line_of l b ≡ Refused r → of_reading (refusal_number r) ≡ true
   line_refused r e = subst (λ (x : Line). OwnLine x) e own_line

@@ -1,7 +1,7 @@
--- Document 01, 'What is declined', and document 02, changes 5, 7, 10, 11 and 13: the number of each refusal.
+-- Document 01, 'What is declined', and document 02, changes 5, 7, 10, 11, 13 and 14: the number of each refusal.
 use Rattle.std.specs.Prelude.{ℕ}
 use Rattle.refusals.specs.declared.Refusal.{Refusal}
-use Rattle.refusals.specs.declared.Refusal.TheVariants.{Characters, TooLong, NoKind, FreshBlock, Fields, Range, Cost, Pair, Absent, CostAbove, Move, PartsOutside, FullWeight, Sums, Budget, Malformed, ForbiddenWeight, Literal, PairsAbove, Order, NotHeld, Figures, Tries}
+use Rattle.refusals.specs.declared.Refusal.TheVariants.{Characters, TooLong, NoKind, FreshBlock, Fields, Range, Cost, Pair, Absent, CostAbove, Move, PartsOutside, FullWeight, Sums, Budget, Malformed, ForbiddenWeight, Literal, PairsAbove, Order, NotHeld, Figures, Tries, WrongSum}
 
 abbrev pub refusal_number : Refusal → ℕ
 refusal_number Characters = 1
@@ -27,3 +27,4 @@ refusal_number Order = 21
 refusal_number NotHeld = 22
 refusal_number Figures = 23
 refusal_number Tries = 24
+refusal_number WrongSum = 25

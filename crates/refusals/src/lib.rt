@@ -1,4 +1,4 @@
-// Document 01, 'What is declined', and document 02, changes 5, 7, 10, 11 and 13: the reasons, with their numbers, and verdicts on a line, a field or an operation.
+// Document 01, 'What is declined', and document 02, changes 5, 7, 10, 11, 13 and 14: the reasons, with their numbers, and verdicts on a line, a field or an operation.
 #![tactic(auto)]
 
 #[derive(Clone, Copy, PartialEq, Eq)]
@@ -48,6 +48,8 @@ pub enum Refusal {
     Figures,
     // More tries than a search may be asked to make.
     Tries,
+    // The bytes of a line over train radio do not add up.
+    WrongSum,
 }
 
 // Document 01's number of a refusal.
@@ -82,6 +84,7 @@ impl From<Refusal> for u8 {
             Refusal::NotHeld => 22,
             Refusal::Figures => 23,
             Refusal::Tries => 24,
+            Refusal::WrongSum => 25,
         }
     }
 }

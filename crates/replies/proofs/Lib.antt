@@ -2,5 +2,6 @@
 pub mod Writing
 pub mod ReplyFields
 pub mod Lengths
+pub mod Begins
 pub mod ReadBack
 pub mod Accepted

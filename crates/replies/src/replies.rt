@@ -23,7 +23,7 @@ use units::Points;
 // How many bytes a choice has in the reply to a search.
 const CHOICE_WIDTH: usize = 1;
 // The first byte of the reply to a declined line.
-const REFUSAL_BYTE: u64 = 255;
+pub const REFUSAL_BYTE: u64 = 255;
 // What is added to a kind's number, in the first byte of its reply.
 const REPLY_KIND: u64 = 128;
 // What stands for the cost where no plan was found: six bytes FF, as the reply has it.

@@ -5,6 +5,7 @@ pub mod Outcomes
 pub mod Ready
 pub mod Lengths
 pub mod LineCases
+pub mod Begins
 pub mod Declined
 pub mod RecordLines
 pub mod DearestLine

@@ -2,11 +2,10 @@
 use Rattle.theory.specs.Lists.{nth}
 use Rattle.std.specs.Prelude.{Bool, true, false, cond, List, [], ℕ, ltb, ℤ, length, Result, Ok, Err}
 use Rattle.refusals.specs.declared.Refusal.{Refusal}
-use Rattle.refusals.specs.declared.Refusal.TheVariants.{Malformed, Figures, Tries}
+use Rattle.refusals.specs.declared.Refusal.TheVariants.{Figures, Tries}
 use Rattle.refusals.specs.Verdicts.{Verdict}
 use Rattle.units.specs.Units.{number_of_points}
 use Rattle.tables.specs.Block.{trains}
-use Rattle.tables.specs.WellFormed.{well_formed}
 use Rattle.tables.specs.Plans.{loaded_total}
 use Rattle.bounds.specs.Bounds.{bound_of}
 use Rattle.records.specs.Records.{record_right}
@@ -147,7 +146,3 @@ fitted room b a = cond (ltb room (length a.reply)) (answered b []) a
 -- the answer to a line on a well-formed block, where the reply may have `room` characters
 unfoldable pub line_answer : List ℕ → List ℤ → ℕ → Answer
 line_answer l b room = fitted room b (carried_out (line_of l b) l b)
-
--- 'Order: 17, 16', then the line: the answer where the reply may have `room` characters
-abbrev pub block_answer : List ℕ → List ℤ → ℕ → Answer
-block_answer l b room = cond (well_formed b) (line_answer l b room) (declined b Malformed)

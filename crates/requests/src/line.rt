@@ -1,7 +1,8 @@
 // A line on a well-formed block: read, judged, carried out and answered.
-ghost use Rattle.std.specs.Prelude.{◌≤◌, length};
+ghost use Rattle.std.specs.Prelude.{◌≡◌, true, ◌≤◌, length};
 ghost use Rattle.replies.specs.Replies.{longest_fixed};
-ghost use Rattle.requests.specs.Answer.{requested, fitted, block_answer};
+ghost use Rattle.tables.specs.WellFormed.{well_formed};
+ghost use Rattle.requests.specs.Answer.{requested, fitted, line_answer};
 ghost use Rattle.requests.specs.Wrote.{Answers, Asks};
 
 use crate::{
@@ -9,22 +10,17 @@ use crate::{
     record_lines, round_line, save_line, search_line, shift_line, tighten_line,
 };
 use lines::request::{Line, Request};
-use refusals::Refusal;
 use replies::replies::write_refusal;
 use tables::block::{Block, Places};
 use tables::held_study::HeldStudy;
 
-// Answers a line: 16 where the block is not well formed, else what the line asks, or why it is declined.
+// Answers a line: what it asks is done, or it is declined.
 #[tactic(auto, unfolding(crate::specs::Answer::line_answer))]
 pub fn answer_line(line: &[u8], block: &mut Places, reply: &mut [u8]) -> usize
-    requires { longest_fixed ≤ length reply.old }
-    ensures { Answers (block_answer line.now block.old (length reply.old)) reply.old block.new reply.new result }
+    requires { (longest_fixed ≤ length reply.old) × (well_formed block.old ≡ true) }
+    ensures { Answers (line_answer line.now block.old (length reply.old)) reply.old block.new reply.new result }
 {
-    let asked = match Block::new(block) {
-        None => Line::Refused(Refusal::Malformed),
-        Some(known) => reader::read(line, known),
-    };
-    match asked {
+    match reader::read(line, Block::known(block)) {
         Line::Refused(refusal) => write_refusal(reply, refusal),
         Line::Asked(request) => answer_request(line, block, reply, request),
     }

@@ -3,12 +3,13 @@ ghost use Rattle.std.specs.Prelude.{◌≡◌};
 ghost use Rattle.requests.specs.Wrote.{Answers};
 ghost use Rattle.service.specs.Answer.{answer};
 
+use radio::answer;
 use refusals::Refusal;
 use replies::replies::write_refusal;
-use requests::line;
+use tables::block::Block;
 
 // The smallest reply buffer, in characters.
-pub const MIN_BUFFER: usize = 72;
+pub const MIN_BUFFER: usize = 74;
 
 // Answers a call, and returns how many characters the reply has.
 #[tactic(auto, unfolding(crate::specs::Answer::answer), using(tables::proofs::Study::other_length, replies::proofs::Writing::wrote_none))]
@@ -18,10 +19,10 @@ pub fn respond(line: &[u8], block: &mut [i64], reply: &mut [u8]) -> usize
     if reply.len() < MIN_BUFFER {
         return 0;
     }
-    match block.as_mut_array() {
-        None => write_refusal(reply, Refusal::Malformed),
-        Some(numbers) => line::answer_line(line, numbers, reply),
+    if Block::new(block).is_none() {
+        return write_refusal(reply, Refusal::Malformed);
     }
+    answer::answer_form(line, block.as_mut_array().unwrap(), reply)
 }
 
 // Answers a call, and hands back the written front of the reply buffer.

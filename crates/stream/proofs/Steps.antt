@@ -11,11 +11,11 @@ use lib.IntN.{ℤ}
 use lib.ListN.{length, take, drop, set, get_or, length-take, length-append, length-replicate}
 use lib.Seq.{take_all, take-take, take-append-add, length-take-le, drop-cons, set_at}
 use borrow.Author.Tests.{lt-ltb, le-ltb, ltb-true, ltb-false, ne_eqb}
-use Rattle.replies.specs.Replies.{longest_reply}
 use Rattle.replies.specs.Wrote.{Wrote}
 use Rattle.replies.proofs.Writing.{wrote_none}
 use Rattle.requests.specs.Answer.{Answer, answered}
 use Rattle.requests.specs.Wrote.{Answers}
+use Rattle.radio.specs.Answer.{longest_form}
 use Rattle.service.specs.Answer.{answer}
 use Rattle.service.proofs.Answers.{buffer_apart}
 use Rattle.service.proofs.Calls.{reply_short, reply_given}
@@ -61,19 +61,19 @@ wrote_more d reply b n c w h =
           (set_at reply (get_or d n 0) (drop (suc n) d) c n (sym w.count) ∙ sym (append_assoc reply (c ∷ []) (drop (suc n) d)));
     }
 
-buffer_length : length reply_buffer ≡ longest_reply
+buffer_length : length reply_buffer ≡ longest_form
 unfolding reply_buffer
-buffer_length = length-replicate {A = ℕ} longest_reply 0
+buffer_length = length-replicate {A = ℕ} longest_form 0
 
 -- the program never gives 17
 pub line_given : (line : List ℕ) (b : List ℤ) → 0 < length (answer line b (line_call line).buffer).reply
 line_given line b = reply_given line b reply_buffer (omega (arith, buffer_length))
 
 module _ (line : List ℕ) (b : List ℤ) (d : List ℕ) {left : List ℤ} {after : List ℕ} {n : ℕ} (a : Answers (answer line b d) d left after n) where
-  pub line_short : n ≤ longest_reply
+  pub line_short : n ≤ longest_form
   line_short = omega (arith, a.reply.count, reply_short line b d)
 
-  pub line_answered : longest_reply < length d → Answers (answer_line line b) d left (set after n line_feed) (n + 1)
+  pub line_answered : longest_form < length d → Answers (answer_line line b) d left (set after n line_feed) (n + 1)
   unfolding answer_line
   line_answered h =
       let e = buffer_apart line b (line_call line).buffer d (omega (arith, buffer_length)) (omega arith) in

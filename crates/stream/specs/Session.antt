@@ -2,7 +2,7 @@
 -- unless empty.' From the bytes of the whole input to the bytes of the whole output.
 use Rattle.std.specs.Prelude.{Bool, cond, List, [], ◌∷◌, ◌++◌, map, ℕ, eqb, ℤ, length, replicate}
 use Rattle.tables.specs.WellFormed.{fresh_block}
-use Rattle.replies.specs.Replies.{longest_reply}
+use Rattle.radio.specs.Answer.{longest_form}
 use Rattle.service.specs.Calls.{Call, Exchange, exchanges}
 
 -- 'line end': a line feed
@@ -30,9 +30,9 @@ lines_from front (c ∷ rest) = ended_by c front ++ lines_from (front_after c fr
 abbrev pub input_lines : List ℕ → List (List ℕ)
 input_lines input = lines_from [] input
 
--- a buffer that holds the longest reply
+-- a buffer that holds the longest reply in either form
 unfoldable pub reply_buffer : List ℕ
-reply_buffer = replicate longest_reply 0
+reply_buffer = replicate longest_form 0
 
 -- the call that a line makes; its buffer counts only by being large enough
 abbrev pub line_call : List ℕ → Call

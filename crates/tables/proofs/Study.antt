@@ -116,6 +116,11 @@ unfolding is_zero
 zero_none (pos n) e = eqb-true n 0 e
 zero_none (negsuc n) e = refl
 
+-- a fresh block has no trains
+fresh_trains : (b : List ℤ) → length b ≡ block_length → is_fresh b ≡ true → trains b ≡ 0
+unfolding is_fresh figure
+fresh_trains b w e = zero_none (at b trains_place) (all_true (λ p. is_zero (at b p)) (length b) (sym (pass_all (λ p z. is_zero z) (pos 0) b) ∙ e) trains_place (omega (arith, w)))
+
 -- ---- each place is within its limits, and but for forbidden entries a natural number
 
 module _ {b : List ℤ} (s : Study b) where
@@ -136,15 +141,11 @@ module _ {b : List ℤ} (s : Study b) where
 
   -- it has a train, so it is not fresh
   pub study_not_fresh : is_fresh b ≡ false
-  unfolding is_fresh figure
   study_not_fresh = go (is_fresh b) refl
     where
       go : (t : Bool) → is_fresh b ≡ t → is_fresh b ≡ false
       go false e = e
-      go true e =
-          let z : is_zero (at b trains_place) ≡ true = all_true (λ p. is_zero (at b p)) (length b) (sym (pass_all (λ p z. is_zero z) (pos 0) b) ∙ e) trains_place (omega (arith, s.whole)) in
-          let n : trains b ≡ 0 = zero_none (at b trains_place) z in
-          absurd (omega (arith, trains_range.0))
+      go true e = absurd (omega (arith, trains_range.0, fresh_trains b s.whole e))
 
   pub scale_range : (scale_min ≤ scale b) × (scale b ≤ scale_max)
   unfolding head_limits
@@ -519,3 +520,23 @@ new_block_outside b r h e = go (well_formed b) refl
     go : (t : Bool) → well_formed b ≡ t → well_formed b ≡ false
     go true p = let q : false ≡ true = subst IsSome e (h.1 p) in cc
     go false p = p
+
+-- numbers that are well formed: with no trains they are the fresh block, and else a study
+module _ (b : List ℤ) (w : well_formed b ≡ true) where
+  whole : length b ≡ block_length
+  unfolding well_formed
+  whole = eqb-true (length b) block_length (both_true (eqb (length b) block_length) (is_fresh b || holds_study b) w).0
+
+  pub known_fresh : trains b ≡ 0 → fresh_block ≡ b
+  known_fresh z = go (is_fresh b) refl
+    where
+      go : (t : Bool) → is_fresh b ≡ t → fresh_block ≡ b
+      go true e = fresh_is b whole e
+      go false e = absurd (omega (arith, z, trains_range (study_of_lem b w e)))
+
+  pub known_study : (trains b ≡ 0 → ⊥) → Study b
+  known_study n = go (is_fresh b) refl
+    where
+      go : (t : Bool) → is_fresh b ≡ t → Study b
+      go true e = absurd (n (fresh_trains b whole e))
+      go false e = study_of_lem b w e

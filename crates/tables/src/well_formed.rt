@@ -36,6 +36,19 @@ impl<'a> Block<'a> {
         }
         None
     }
+
+    // The block that these numbers are, which are known to be well formed.
+    #[tactic(auto, using(crate::proofs::Study::known_fresh, crate::proofs::Study::known_study))]
+    pub fn known(numbers: &'a Places) -> Block<'a>
+        requires { well_formed numbers.now ≡ true }
+        ensures { block_numbers result ≡ numbers.now }
+    {
+        if block::trains(numbers) == 0 {
+            Block::Fresh
+        } else {
+            Block::Held(HeldStudy::known(numbers))
+        }
+    }
 }
 
 // Whether all numbers are 0. The first is looked at by itself: in a loaded study it is n, and the others need no look.

@@ -3,7 +3,7 @@ use mathlib.Core.Path.{◌≡◌, refl, sym, ap, ◌∙◌}
 use mathlib.Core.Bool.{cond, not}
 use mathlib.Core.Logic.{⊎_elim, dite}
 use Prim.Native.Nat.{ℕ, zero, suc, ◌+◌, ◌*◌, ◌<◌, ◌≤◌}
-use native.Mathlib.Nat.{add-mul, mul-add, mul-le-mul_left, mul-zero, mul_comm, zero-mul, suc-mul, eq-or-lt_of_le, le_of_suc-le-suc, mul-suc}
+use native.Mathlib.Nat.{add-zero, add-suc, add-mul, mul-add, mul-le-mul_left, mul-zero, mul_comm, zero-mul, suc-mul, eq-or-lt_of_le, le_of_suc-le-suc, mul-suc}
 use native.Mathlib.Decide.{ℕ_discrete, dec_lt}
 use native.Mathlib.Numerals.{add-one}
 use native.Mathlib.Omega.{arith}
@@ -107,6 +107,12 @@ pub sum_swap : (n m : ℕ) (f : ℕ → ℕ → ℕ) → sum n (λ i. sum m (λ 
 unfolding sum
 sum_swap zero m f = sym (sum-zero m)
 sum_swap (suc n) m f = omega (arith, sum_swap n m f, sum-add m (λ j. sum n (λ i. f i j)) (λ j. f n j))
+
+-- the front and the rest
+pub sum_split : (m n : ℕ) (f : ℕ → ℕ) → sum (m + n) f ≡ sum m f + sum n (λ k. f (m + k))
+unfolding sum
+sum_split m zero f = rw (add-zero m) (omega arith)
+sum_split m (suc n) f = rw add-suc (omega (arith, sum_split m n f))
 
 -- the first term apart
 pub sum_head : (n : ℕ) (f : ℕ → ℕ) → sum (suc n) f ≡ f 0 + sum n (λ i. f (i + 1))

@@ -1,8 +1,8 @@
 //! `claims [--reference] SEED SESSIONS`: checks document 01's claims and what is said of rounds, of forbidden entries, of
 //! stopping at the bound, of clauses, of reasons, of bounds in steps, of orders, of records and of dearest studies on sessions of
-//! small studies, what is said of two rooms on four times two lists for each session, and what is said of saves, of records and
-//! of dearest studies on as many sessions over studies of every size and blocks that no line makes; once, the dearest study that
-//! has as many tries as there may be.
+//! small studies, what is said of two rooms on four times two lists for each session, and what is said of saves, of records, of
+//! dearest studies and of lines by radio on as many sessions over studies of every size and blocks that no line makes; once, the
+//! dearest study that has as many tries as there may be.
 
 use reference::claims::{check_session, Tally};
 use reference::random::Random;
@@ -33,6 +33,7 @@ fn run() -> Result<(), Box<dyn Error>> {
         tally.saves.check_session(service, seed, CALLS)?;
         tally.taken.check_session(service, seed, CALLS)?;
         tally.dearest.check_session(service, seed, CALLS)?;
+        tally.second_forms.check_session(service, seed, CALLS)?;
         (0..4).try_for_each(|more| tally.rooms.check_session(service, seed.wrapping_add(more)))?;
     }
     println!("{tally:?}");
