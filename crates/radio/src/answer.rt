@@ -16,7 +16,8 @@ use replies::replies::write_refusal;
 use requests::line;
 use tables::block::Places;
 
-// Answers a line as its plain form. That is a copy, so that the reader needs to know of one form only.
+// Answers a line as its plain form. That is a copy, so that the reader needs to know of one form only. It is not inlined: a plain line has no copy on its stack.
+#[inline(never)]
 fn answer_copy(line: &[u8], block: &mut Places, reply: &mut [u8]) -> usize
     requires { (4 ≤ length line.now) × (length line.now ≤ max_characters) × (longest_fixed ≤ length reply.old) × (well_formed block.old ≡ true) }
     ensures { Answers (line_answer (plain_line line.now) block.old (length reply.old)) reply.old block.new reply.new result }

@@ -19,6 +19,7 @@ const WEIGHTS: usize = Load::CHOICE_COSTS + Load::ENTRIES;
 
 // Judges a certificate.
 #[tactic(auto, unfolding(crate::specs::Answer::requested))]
+#[inline(never)]
 pub fn answer_certify(line: &[u8], block: &Places, reply: &mut [u8], q: Certify) -> usize
     requires { (longest_fixed ≤ length reply.old) × Certifies line.now block.now q }
     ensures { Wrote reply.old (requested (certify_of q) line.now block.now).reply reply.new result }

@@ -14,6 +14,7 @@ use tables::block::Places;
 
 // Loads a study written as clauses.
 #[tactic(auto, unfolding(crate::specs::Answer::requested), using(clauses::proofs::Block::clauses_study))]
+#[inline(never)]
 pub fn answer_clauses(line: &[u8], block: &mut Places, reply: &mut [u8], q: Clauses) -> usize
     requires { (longest_fixed ≤ length reply.old) × LoadsClauses line.now q }
     ensures { Answers (requested (clauses_request q) line.now block.old) reply.old block.new reply.new result }

@@ -14,6 +14,7 @@ use saving::write::{line_length, write_load};
 
 // Answers with the line that loads the dearest study of these sizes, where its search tries no more choices than may be and there is room for it. The block is not read: equal sizes get equal lines.
 #[tactic(auto, using(theory::proofs::Lists::list_length, replies::proofs::Writing::wrote_none, crate::proofs::Ready::sizes_there, crate::proofs::Dearest::late_given, crate::proofs::Dearest::dearest_costs_most, crate::proofs::Dearest::dearest_length))]
+#[inline(never)]
 pub fn answer_dearest(line: &[u8], reply: &mut [u8], q: Dearest) -> usize
     requires { (longest_fixed ≤ length reply.old) × SizesThere line.now q.sizes }
     ensures { (b : List ℤ) → Wrote reply.old (fitted (length reply.old) b (dearest_given (choices_in line.now q.sizes) b)).reply reply.new result }

@@ -27,6 +27,7 @@ pub fn answer_line(line: &[u8], block: &mut Places, reply: &mut [u8]) -> usize
 }
 
 // Does what a request asks, where there is room for its reply.
+// What fills arrays is not inlined: else the arrays of all kinds would stand in this frame, for a line of any kind.
 #[tactic(auto, unfolding(crate::specs::Answer::requested))]
 fn answer_request(line: &[u8], block: &mut Places, reply: &mut [u8], q: Request) -> usize
     requires { Asks line.now block.old q (length reply.old) }

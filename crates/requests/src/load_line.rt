@@ -16,6 +16,7 @@ use tables::held_study::HeldStudy;
 
 // Loads a study.
 #[tactic(auto, unfolding(crate::specs::Answer::requested), using(operations::proofs::Loaded::load_study))]
+#[inline(never)]
 pub fn answer_load(line: &[u8], block: &mut Places, reply: &mut [u8], q: Load) -> usize
     requires { (longest_fixed ≤ length reply.old) × Loads line.now q }
     ensures { Answers (requested (load_of q) line.now block.old) reply.old block.new reply.new result }

@@ -14,6 +14,7 @@ use tables::block::Places;
 
 // Makes a directional round of the held costs.
 #[tactic(auto, using(crate::proofs::Ready::directed_study))]
+#[inline(never)]
 pub fn answer_round(block: &mut Places, reply: &mut [u8]) -> usize
     requires { (longest_fixed ≤ length reply.old) × Study block.old }
     ensures { Answers (operated round_kind (direct_outcome block.old) block.old (kept block.old (directed block.old))) reply.old block.new reply.new result }

@@ -7,6 +7,7 @@ use saving::save;
 use tables::held_study::HeldStudy;
 
 // Saves the study that is held. A line that is longer than the buffer is not begun.
+#[inline(never)]
 pub fn answer_save(study: HeldStudy<'_>, reply: &mut [u8]) -> usize
     ensures { Wrote reply.old (fitted (length reply.old) study.entry.numbers.now (saved study.entry.numbers.now)).reply reply.new result }
 {

@@ -14,6 +14,7 @@ use tables::held_study::HeldStudy;
 
 // Searches for the best plan.
 #[tactic(auto, using(tables::proofs::Study::trains_range))]
+#[inline(never)]
 pub fn answer_search(study: HeldStudy<'_>, reply: &mut [u8], q: Search) -> usize
     requires { (longest_fixed ≤ length reply.old) × (q.budget ≤ max_budget) }
     ensures { Wrote reply.old (search_reply (trains study.entry.numbers.now) (search_answer study.entry.numbers.now q.budget)) reply.new result }

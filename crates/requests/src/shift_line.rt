@@ -18,6 +18,7 @@ const MOVES: usize = Block::PAIRS * (Block::CHOICES + Block::CHOICES);
 
 // Shifts the held costs.
 #[tactic(auto, unfolding(crate::specs::Answer::requested), using(theory::proofs::Lists::list_length, crate::proofs::Ready::shifted_study))]
+#[inline(never)]
 pub fn answer_shift(line: &[u8], block: &mut Places, reply: &mut [u8], q: Shift) -> usize
     requires { (longest_fixed ≤ length reply.old) × Shifts line.now block.old q }
     ensures { Answers (requested (shift_of q) line.now block.old) reply.old block.new reply.new result }

@@ -14,6 +14,7 @@ use tables::block::Places;
 
 // Tightens the held costs. The round is as short: one function over the operation would take a longer contract than both.
 #[tactic(auto, using(crate::proofs::Ready::tightened_study))]
+#[inline(never)]
 pub fn answer_tighten(block: &mut Places, reply: &mut [u8]) -> usize
     requires { (longest_fixed ≤ length reply.old) × Study block.old }
     ensures { Answers (operated tighten_kind (tighten_outcome block.old) block.old (kept block.old (tightened block.old))) reply.old block.new reply.new result }
