@@ -10,10 +10,11 @@ from typing import NamedTuple
 from hosting import library as libraries
 from hosting import records, store
 from hosting.config import Config
-from hosting.header import NUMBER_BYTES, Header
-from hosting.library import Library, LibraryError
 from hosting.records import Damaged, Records, Start, Stored
 from hosting.store import NotServed, Study
+from junction.errors import LibraryError
+from junction.lengths import NUMBER_BYTES, Lengths
+from junction.native import Library
 
 # How many places the order of trains has, behind the tables of a block of 6,652 numbers.
 ORDER_PLACES = 24
@@ -86,7 +87,7 @@ def _tell_gone(path: Path, name: str, study: Records, shelf: Shelf) -> None:
         log.error("study %s: %d answered lines are gone; it goes on after line %d, which was verified", name, gone, study.count())
 
 
-def carried(block: bytes, header: Header) -> bytes:
+def carried(block: bytes, header: Lengths) -> bytes:
     """A stored block as a library of these lengths takes it."""
     if len(block) == header.block_bytes:
         return block

@@ -1,5 +1,5 @@
-"""The commands of the host. Exit status 0: done; 1: a check found something; 2: wrong use, or it could not be done. What is wrong is said on
-standard error, a line each."""
+"""The commands of the host. Exit status 0: done; 1: a check found something, or a line was declined; 2: wrong use, or it could not be done, as
+where the host is not serving. What is wrong is said on standard error, a line each."""
 
 import argparse
 import ipaddress
@@ -8,14 +8,27 @@ import sys
 from collections.abc import Callable
 from itertools import islice
 from pathlib import Path
+from typing import TypeAlias
 
-from hosting import checks, config, library, server, store, words
+from hosting import checks, config, desk, library, lifting, server, store, stored, words
+from hosting.calling import NotReached
 from hosting.config import ConfigError
-from hosting.library import LibraryError
+from hosting.desk import WrongUse
+from hosting.printing import DONE, FAILED, FOUND, complain, note, print_json
 from hosting.records import Address, Damaged, Settings
 from hosting.store import NotServed, StudyError
+from junction.errors import Failure, FormatError, LibraryError, Refused
+from junction.formats import FORMATS
+from junction.formats.parts import SCALE_MOST
+from junction.kinds import Facts
+from junction.study import Absent
 
-DONE, FOUND, FAILED = 0, 1, 2
+Command = Callable[[argparse.Namespace], int]
+Commands: TypeAlias = "argparse._SubParsersAction[argparse.ArgumentParser]"
+
+DATA = "JUNCTION_DATA"
+OBJECT = "print one JSON object"
+SCALE_HELP = "how many parts a point has, instead of what the file says; where it says nothing, 840"
 LOOPBACK = "127.0.0.1"
 PORTS = range(1, 65536)
 LONGEST_SOCKET_PATH = 107
@@ -25,16 +38,20 @@ def main(arguments: list[str]) -> int:
     """Carries out a command, and gives the exit status."""
     given = _parser().parse_args(arguments)
     try:
-        if given.command is not add and not given.data.is_dir():
+        if given.command not in (add, desk.convert) and not given.data.is_dir():
             raise StudyError(f"there is no data folder {given.data}")
-        status = given.command(given)
+        status: int = given.command(given)
         sys.stdout.flush()
         return status
-    except (StudyError, NotServed, LibraryError, ConfigError, Damaged) as error:
-        return _complain(str(error), FAILED)
+    except FormatError as error:
+        return max(complain(str(mistake), FAILED) for mistake in error.all_of_them)
+    except Refused as refused:
+        return complain(str(refused), FOUND)
+    except (StudyError, NotServed, NotReached, LibraryError, ConfigError, Damaged, WrongUse, Absent, Failure) as error:
+        return complain(str(error), FAILED)
     except OSError as error:
         _leave_output()
-        return _complain(str(error), FAILED)
+        return complain(str(error), FAILED)
 
 
 def _leave_output() -> None:
@@ -42,11 +59,6 @@ def _leave_output() -> None:
     nowhere = os.open(os.devnull, os.O_WRONLY)
     os.dup2(nowhere, sys.stdout.fileno())
     os.close(nowhere)
-
-
-def _complain(text: str, status: int) -> int:
-    print(f"host: {text}", file=sys.stderr)
-    return status
 
 
 def serve(given: argparse.Namespace) -> int:
@@ -60,8 +72,7 @@ def add(given: argparse.Namespace) -> int:
     if not address.socket and not config.may_listen(address.bind, config.read(given.data)):
         raise StudyError(f"without TLS (certificate and key in {config.FILE}) the host listens on loopback only, not on {address.bind}")
     store.create(given.data, Settings(given.name, address, given.crlf))
-    print(f"{given.name} at {address}")
-    return DONE
+    return _say(given, f"{given.name} at {address}", {"study": given.name, "address": str(address), "crlf": given.crlf})
 
 
 def _address(given: argparse.Namespace) -> Address:
@@ -77,21 +88,39 @@ def _address(given: argparse.Namespace) -> Address:
 
 def remove(given: argparse.Namespace) -> int:
     """Takes a study away. Its files are moved, not deleted."""
-    print(f"{given.name} is now {store.remove(given.data, given.name)}")
+    moved = store.remove(given.data, given.name)
+    return _say(given, f"{given.name} is now {moved}", {"study": given.name, "folder": str(moved)})
+
+
+def _say(given: argparse.Namespace, words: str, facts: Facts) -> int:
+    """Prints what was done, in words or as JSON."""
+    if given.json:
+        return print_json(facts)
+    print(words)
     return DONE
 
 
 def list_studies(given: argparse.Namespace) -> int:
     """Prints name, address and number of answered lines of every study."""
-    status = DONE
-    for name in store.present(given.data):
-        try:
-            with store.reading(given.data, name) as study:
-                settings, count = study.settings(), study.count()
-            print(f"{name}  {settings.address}{'  crlf' if settings.crlf else ''}  {count} lines")
-        except StudyError as error:
-            status = _complain(str(error), FOUND)
-    return status
+    studies = [_listed(given.data, name) for name in store.present(given.data)]
+    if given.json:
+        print_json({"studies": studies})
+    for study in studies:
+        if study["wrong"]:
+            complain(study["wrong"], FOUND)
+        elif not given.json:
+            print(f"{study['name']}  {study['address']}{'  crlf' if study['crlf'] else ''}  {study['lines']} lines")
+    return FOUND if any(study["wrong"] for study in studies) else DONE
+
+
+def _listed(data: Path, name: str) -> Facts:
+    """A study with its address and the number of its lines, or what is wrong with it."""
+    try:
+        with store.reading(data, name) as study:
+            settings, count = study.settings(), study.count()
+    except StudyError as error:
+        return {"name": name, "address": None, "crlf": None, "lines": None, "wrong": str(error)}
+    return {"name": name, "address": str(settings.address), "crlf": settings.crlf, "lines": count, "wrong": None}
 
 
 def verify(given: argparse.Namespace) -> int:
@@ -99,31 +128,34 @@ def verify(given: argparse.Namespace) -> int:
     installed = library.installed()
     try:
         findings = checks.verify(given.data, given.name, installed)
+        said, wrong = findings.said, [f"study {given.name}: {text}" for text in findings.wrong]
     except store.Unusable as error:
-        return _complain(str(error), FOUND)
-    for text in findings.said:
-        print(f"{given.name}: {text}")
-    for text in findings.wrong:
-        _complain(f"study {given.name}: {text}", FOUND)
-    return FOUND if findings.wrong else DONE
+        said, wrong = [], [str(error)]
+    if given.json:
+        print_json({"study": given.name, "said": said, "wrong": wrong})
+    else:
+        for text in said:
+            print(f"{given.name}: {text}")
+    for text in wrong:
+        complain(text, FOUND)
+    return FOUND if wrong else DONE
 
 
 def show(given: argparse.Namespace) -> int:
     """Prints a study in words."""
-    installed = library.installed()
-    with store.reading(given.data, given.name) as study:
-        block = checks.logged_block(study)
-        block = installed.fresh() if block is None else checks.carried(block, installed.header)
-        print(words.show(installed, block, study.newest_first(), given.json))
+    with stored.now(given.data, given.name, library.installed()) as now:
+        print(words.show(now.library, now.block, now.records.newest_first(), given.json, now.named()))
     return DONE
 
 
 def log(given: argparse.Namespace) -> int:
     """Prints stored lines and replies in words."""
-    header = library.installed().header
+    installed = library.installed()
+    named = stored.names_by_line(given.data, given.name, installed)
+    note(filter(None, [named.left_out]))
     with store.reading(given.data, given.name) as study:
         lines = study.lines() if given.last is None else reversed(list(islice(study.newest_first(), given.last)))
-        for text in words.log(header, lines, given.json):
+        for text in words.log(installed.header, lines, given.json, named):
             print(text)
     return DONE
 
@@ -131,35 +163,81 @@ def log(given: argparse.Namespace) -> int:
 def compact(given: argparse.Namespace) -> int:
     """Drops stored lines that changed nothing."""
     dropped, kept = checks.compact(given.data, given.name)
-    print(f"{given.name}: {dropped} lines dropped, {kept} kept")
-    return DONE
+    return _say(given, f"{given.name}: {dropped} lines dropped, {kept} kept", {"study": given.name, "dropped": dropped, "kept": kept})
 
 
 def _parser() -> argparse.ArgumentParser:
     parser = argparse.ArgumentParser(prog="host", description="Answers the lines of many studies by the proved library, and stores every answer.")
-    commands = parser.add_subparsers(required=True, metavar="COMMAND")
-    _command(commands, "serve", serve, named=False)
+    commands: Commands = parser.add_subparsers(required=True, metavar="COMMAND")
+    _command(commands, "serve", serve, named=False, json=None)
+    _add_parser(commands)
+    _command(commands, "remove", remove)
+    _command(commands, "list", list_studies, named=False)
+    _command(commands, "verify", verify)
+    _command(commands, "show", show)
+    logged = _command(commands, "log", log, json="print a JSON object for each line")
+    logged.add_argument("--last", type=_count, metavar="N", help="only the last N lines")
+    _command(commands, "compact", compact)
+    _convert_parser(commands)
+    _desk_parsers(commands)
+    return parser
+
+
+def _add_parser(commands: Commands) -> None:
     added = _command(commands, "add", add)
     where = added.add_mutually_exclusive_group(required=True)
     where.add_argument("--port", type=_port, help="a TCP port")
     where.add_argument("--socket", type=Path, metavar="PATH", help="a socket file")
-    added.add_argument("--bind", type=_bind, metavar="ADDRESS", help=f"with --port: the IP address to listen on, {LOOPBACK} unless given; other than loopback needs TLS")
+    bind = f"with --port: the IP address to listen on, {LOOPBACK} unless given; other than loopback needs TLS"
+    added.add_argument("--bind", type=_bind, metavar="ADDRESS", help=bind)
     added.add_argument("--crlf", action="store_true", help="lines and replies end in CR LF")
-    _command(commands, "remove", remove)
-    _command(commands, "list", list_studies, named=False)
-    _command(commands, "verify", verify)
-    _command(commands, "show", show).add_argument("--json", action="store_true")
-    logged = _command(commands, "log", log)
-    logged.add_argument("--last", type=_count, metavar="N", help="only the last N lines")
-    logged.add_argument("--json", action="store_true", help="a JSON object for each line")
-    _command(commands, "compact", compact)
+
+
+def _convert_parser(commands: Commands) -> None:
+    """The command that needs no data folder."""
+    parser = commands.add_parser("convert", help=desk.convert.__doc__, description=desk.convert.__doc__)
+    parser.set_defaults(command=desk.convert)
+    parser.add_argument("source", metavar="IN", help="the file to read, or - for standard input")
+    parser.add_argument("target", metavar="OUT", help="the file to write, or - for standard output")
+    for option, dest, read in (("--from", "from_kind", "IN"), ("--to", "to_kind", "OUT")):
+        parser.add_argument(option, dest=dest, metavar="FORMAT", help=f"the format of {read}, by its suffix unless given: {', '.join(FORMATS)}")
+    parser.add_argument("--scale", type=_scale, metavar="N", help=SCALE_HELP)
+    parser.add_argument("--json", action="store_true", help=OBJECT)
+
+
+def _desk_parsers(commands: Commands) -> None:
+    """The commands of planners."""
+    imported = _client(_command(commands, "import", desk.import_study))
+    imported.add_argument("file", metavar="FILE", help="the file, or - for standard input")
+    imported.add_argument("--from", dest="kind", metavar="FORMAT", help=f"its format, where its suffix does not say it: {', '.join(FORMATS)}")
+    imported.add_argument("--scale", type=_scale, metavar="N", help=SCALE_HELP)
+    exported = _command(commands, "export", desk.export)
+    exported.add_argument("file", metavar="FILE", help="the file, or - for standard output")
+    exported.add_argument("--to", dest="kind", metavar="FORMAT", help=f"its format, where its suffix does not say it: {', '.join(FORMATS)}")
+    lifted = _client(_command(commands, "lift", lifting.lift))
+    lifted.add_argument("--ceiling", action="store_true", help="by a linear programme, with the ceiling that no shift can pass")
+    _command(commands, "plan", desk.plan)
+    sent = _client(_command(commands, "send", desk.send))
+    sent.add_argument("asking", nargs="+", metavar="WORD", help="tighten, round, search N, add TRAIN CHOICE POINTS, save, or a line as it stands")
+    _command(commands, "watch", desk.watch, json="print a JSON object for each line")
+
+
+def _client(parser: argparse.ArgumentParser) -> argparse.ArgumentParser:
+    """A command that connects to a study."""
+    parser.add_argument("--certificate", type=Path, metavar="FILE", help="the client's certificate, where the host asks for one")
+    parser.add_argument("--key", type=Path, metavar="FILE", help="its key, in the same file unless given")
     return parser
 
 
-def _command(commands: argparse._SubParsersAction, name: str, function: Callable[[argparse.Namespace], int], named: bool = True) -> argparse.ArgumentParser:
+def _command(commands: Commands, name: str, function: Command, named: bool = True, json: str | None = OBJECT) -> argparse.ArgumentParser:
+    """A command on a data folder."""
     parser = commands.add_parser(name, help=function.__doc__, description=function.__doc__)
     parser.set_defaults(command=function)
-    parser.add_argument("--data", type=Path, required=True, metavar="DIR", help="the data folder")
+    data = os.environ.get(DATA) or None
+    where = f"the data folder, by {DATA} of the environment unless given"
+    parser.add_argument("--data", type=Path, required=data is None, default=data, metavar="DIR", help=where)
+    if json:
+        parser.add_argument("--json", action="store_true", help=json)
     if named:
         parser.add_argument("name", metavar="NAME", help="the name of a study")
     return parser
@@ -176,6 +254,12 @@ def _bind(text: str) -> str:
         return str(ipaddress.ip_address(text))
     except ValueError as error:
         raise argparse.ArgumentTypeError(f"not an IP address: {text}") from error
+
+
+def _scale(text: str) -> int:
+    if not (text.isascii() and text.isdecimal()) or not 1 <= int(text) <= SCALE_MOST:
+        raise argparse.ArgumentTypeError(f"not a scale from 1 to {SCALE_MOST}: {text}")
+    return int(text)
 
 
 def _count(text: str) -> int:

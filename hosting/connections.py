@@ -10,8 +10,8 @@ from typing import Callable, cast
 
 from hosting.config import Config
 from hosting.lines import CARRIAGE_RETURN, LINE_FEED, LineCutter
-from hosting.secured import READ_BYTES, Secured
 from hosting.workers import Worker
+from junction.secured import READ_BYTES, Secured
 
 # Above so many unsent bytes of replies no more lines are taken from a client until it reads.
 UNSENT_BYTES = 64 * 1024

@@ -2,9 +2,9 @@
 
 import re
 from pathlib import Path
-from typing import NamedTuple
 
-NUMBER_BYTES = 8
+from junction.lengths import Lengths
+
 DEFINITION = re.compile(r"^#define (JUNCTION_[A-Z_]+) ([0-9]+|JUNCTION_[A-Z_]+)$", re.MULTILINE)
 
 
@@ -12,38 +12,25 @@ class HeaderError(Exception):
     """A header that does not say every length."""
 
 
-class Header(NamedTuple):
-    """The fields bear the names of the header's definitions, without JUNCTION_."""
-
-    block_numbers: int
-    reply_bytes: int
-    line_characters: int
-    longest_reply_bytes: int
-
-    @property
-    def block_bytes(self) -> int:
-        return self.block_numbers * NUMBER_BYTES
-
-
 def definition(field: str) -> str:
     """The name that a field has in the header."""
     return "JUNCTION_" + field.upper()
 
 
-def parse(text: str) -> Header:
+def parse(text: str) -> Lengths:
     """The lengths that a header's text says, each as a number or as the name of another length."""
     said = dict(DEFINITION.findall(text))
     values = []
-    for field in Header._fields:
+    for field in Lengths._fields:
         value = said.get(definition(field), "")
         value = said.get(value, value)
         if not value.isdecimal():
             raise HeaderError(f"the header does not say {definition(field)} as a number")
         values.append(int(value))
-    return Header(*values)
+    return Lengths(*values)
 
 
-def read(path: Path) -> Header:
+def read(path: Path) -> Lengths:
     """The lengths that a header file says."""
     try:
         return parse(path.read_text(encoding="utf-8"))
@@ -51,6 +38,6 @@ def read(path: Path) -> Header:
         raise HeaderError(f"{path}: {error}") from error
 
 
-def text(header: Header) -> str:
+def text(header: Lengths) -> str:
     """A header that says these lengths and nothing else, kept beside the copy of a library."""
     return "".join(f"#define {definition(field)} {value}\n" for field, value in header._asdict().items())

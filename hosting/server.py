@@ -16,6 +16,7 @@ from typing import Iterator
 from hosting import library, secured, store
 from hosting.config import Config
 from hosting.studies import Common, Served
+from junction.native import Library
 
 LOCK_FILE = "lock"
 # The data folder is looked at for new and removed studies once in so many seconds.
@@ -53,7 +54,7 @@ def serve(data: Path, config: Config) -> int:
 class Host:
     """Keeps what is served as the data folder has it."""
 
-    def __init__(self, data: Path, config: Config, answering: library.Library, context: ssl.SSLContext | None) -> None:
+    def __init__(self, data: Path, config: Config, answering: Library, context: ssl.SSLContext | None) -> None:
         self._common = Common(data, config, answering, set())
         self._context = context
         self._served: dict[str, Served] = {}

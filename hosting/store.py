@@ -12,8 +12,10 @@ from datetime import datetime, timezone
 from pathlib import Path
 
 from hosting import records
-from hosting.library import FOLDER_MODE, Library, LibraryError
+from hosting.library import FOLDER_MODE
 from hosting.records import Address, Records, Settings, Stored
+from junction.errors import LibraryError
+from junction.native import Library
 
 NAME = re.compile(r"[A-Za-z0-9][A-Za-z0-9._-]{0,63}")
 CHECKPOINT_LINES = 500

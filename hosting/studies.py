@@ -11,9 +11,9 @@ from typing import AsyncIterator, NamedTuple
 from hosting import checks, store
 from hosting.config import Config
 from hosting.connections import Clients, Connection
-from hosting.library import Library
 from hosting.listeners import Listener
 from hosting.workers import Worker
+from junction.native import Library
 
 # A study that cannot be served is tried again after so many seconds.
 RETRY_SECONDS = 60

@@ -1,15 +1,18 @@
 """Stored lines and a study's block in words, for `log` and `show`. Nothing here alters a study or answers a line."""
 
 import json
-import struct
 from collections.abc import Iterable, Iterator
 from fractions import Fraction
 
-from hosting import kinds
-from hosting.header import Header
-from hosting.kinds import Facts, Form, counted
-from hosting.library import Library
+from hosting import asked, found, names
+from hosting.found import Found
+from hosting.names import Named
 from hosting.records import Stored
+from junction import kinds
+from junction.kinds import Facts, Form, counted
+from junction.lengths import BY_DOCUMENT, Lengths
+from junction.native import Library
+from junction.study import Study
 
 # The places of the block, as document 01 gives them.
 TRAINS, SCALE, PAIRS, CONSTANT = 0, 1, 2, 3
@@ -20,16 +23,23 @@ ORDER = 6652
 FORBIDDEN = -1
 
 
-def log(header: Header, lines: Iterable[Stored], as_json: bool = False) -> Iterator[str]:
+def log(lengths: Lengths, lines: Iterable[Stored], as_json: bool = False, named: names.Since = names.NOTHING) -> Iterator[str]:
     """A line of text, or of JSON, for each stored line, in the order given."""
     for stored in lines:
-        request, answer = _request(stored.line), _answer(stored.line, stored.reply, header)
+        study = named.at(stored.number)
+        request, answer = _request(stored.line, study), _answer(stored.line, stored.reply, lengths, study)
         if as_json:
             texts = {"line": _text(stored.line), "reply": _text(stored.reply)}
             yield json.dumps({**stored._asdict(), **texts, "request": request, "answer": answer})
         else:
             by_radio = ", by radio" if request["radio"] else ""
             yield f"{stored.number}  {stored.time}  {request['words']}{by_radio}  ->  {answer['words']}"
+
+
+def exchange(line: str, reply: str, study: Study | None) -> Facts:
+    """A line and its reply, with what they say."""
+    asking, answering = line.encode("ascii"), reply.encode("ascii", "replace")
+    return {"line": line, "reply": reply, "request": _request(asking, study), "answer": _answer(asking, answering, BY_DOCUMENT, study)}
 
 
 def _text(line: bytes) -> str:
@@ -57,46 +67,52 @@ def _read(text: bytes, forms: dict[int, Form]) -> Facts:
     return {"kind": kind, "name": form.name, **facts, "words": form.words(facts)}
 
 
-def _request(line: bytes) -> Facts:
+def _request(line: bytes, study: Study | None = None) -> Facts:
     """What a line asks, and whether it came over train radio; then its kind is that of its plain form."""
     plain = kinds.plain_line(line)
-    return {**_read(plain or line, kinds.LINES), "radio": plain is not None}
+    return {**names.told(_read(plain or line, kinds.LINES), study), "radio": plain is not None}
 
 
-def _answer(line: bytes, reply: bytes, header: Header) -> Facts:
+def _answer(line: bytes, reply: bytes, lengths: Lengths, study: Study | None = None) -> Facts:
     """What a line's reply says, and whether in the form for train radio; an empty one is number 17, which writes nothing."""
     if reply == b"":
-        return {**_declined(kinds.BUFFER_TOO_SMALL, header), "radio": False}
-    asked = kinds.plain_line(line)
-    plain = kinds.plain_reply(reply) if asked else None
-    facts = _read(plain or reply, kinds.replies_to(_kind(asked or line)))
-    said = _declined(facts["number"], header) if "number" in facts else facts
+        return {**_declined(kinds.BUFFER_TOO_SMALL, lengths), "radio": False}
+    asked_by = kinds.plain_line(line)
+    plain = kinds.plain_reply(reply) if asked_by else None
+    facts = _read(plain or reply, kinds.replies_to(_kind(asked_by or line)))
+    said = _declined(facts["number"], lengths) if "number" in facts else names.told(facts, study)
     return {**said, "radio": plain is not None}
 
 
-def _declined(number: int, header: Header) -> Facts:
+def _declined(number: int, lengths: Lengths) -> Facts:
     """A refusal with its reason, or with its number alone."""
-    reason = kinds.reason(number, header)
+    reason = kinds.reason(number, lengths)
     words = f"declined, {number}" + (f": {reason}" if reason else "")
     return {"kind": kinds.DECLINED, "name": "declined", "number": number, "reason": reason, "words": words}
 
 
-def show(library: Library, block: bytes, newest_first: Iterable[Stored], as_json: bool = False) -> str:
-    """The study that a block holds, with its last plan and its last ceiling, in words or as JSON."""
-    facts = _study(library, block)
+def answers(lengths: Lengths, newest_first: Iterable[Stored]) -> Iterator[tuple[int, Facts]]:
+    """What the replies to stored lines say, each with the line's number."""
+    for stored in newest_first:
+        yield stored.number, _answer(stored.line, stored.reply, lengths)
+
+
+def show(library: Library, block: bytes, newest_first: Iterable[Stored], as_json: bool = False, named: Named = names.UNNAMED) -> str:
+    """The study that a block holds, with the best plan, the last plan and the last ceiling since it was loaded, in words or as JSON."""
+    facts = _study(block, library)
     if facts["loaded"]:
-        facts.update(_last(library.header, newest_first, facts))
+        facts.update(_found(library, block, newest_first, facts, named.study), names=names.listed(named.study), names_left_out=named.left_out)
     if as_json:
         return json.dumps(facts)
     return "\n".join(f"{title:<10}{words}" for title, words in _rows(facts))
 
 
-def _study(library: Library, block: bytes) -> Facts:
-    numbers = struct.unpack(f"<{library.header.block_numbers}q", block)
+def _study(block: bytes, library: Library) -> Facts:
+    numbers = asked.numbers(block)
     trains, pairs = numbers[TRAINS], numbers[PAIRS]
     if trains == 0:
         return {"loaded": False}
-    facts: Facts = {
+    return {
         "loaded": True,
         "trains": trains,
         "scale": numbers[SCALE],
@@ -106,45 +122,31 @@ def _study(library: Library, block: bytes) -> Facts:
         "forbidden_pairs_of_choices": numbers[PAIR_COSTS].count(FORBIDDEN),
         "constant": numbers[CONSTANT],
         "order": list(numbers[ORDER:ORDER + trains]),
+        "bound": asked.bound(library, block),
     }
-    return {**facts, "bound": _bound(library, block, facts)}
 
 
-def _bound(library: Library, block: bytes, facts: Facts) -> int | None:
-    """The bound that the library publishes of this block: what it answers to a shift of nothing."""
-    sizes = facts["sizes"]
-    numbers = facts["trains"] + sum(sizes[i] + sizes[j] for i, j in facts["pairs"])
-    line = b"03" + b"00" * kinds.MOVE_WIDTH * numbers
-    reply, _ = library.answer(block, line)
-    return _answer(line, reply, library.header).get("bound")
+def _found(library: Library, block: bytes, newest_first: Iterable[Stored], facts: Facts, study: Study | None) -> Facts:
+    """What was found since the load: the plan that is best now, the last plan (or that there is none) and the last ceiling."""
+    findings = found.since_load(answers(library.header, newest_first))
+    return {
+        "best_plan": names.told(best(library, block, findings), study),
+        "last_plan": findings.last and names.told(findings.last, study),
+        "last_ceiling": findings.ceiling and _ceiling(findings.ceiling, facts),
+    }
 
 
-def _last(header: Header, newest_first: Iterable[Stored], study: Facts) -> Facts:
-    """The last plan (or that there is none) and the last ceiling since the study was loaded.
-
-    An addition makes plans dearer and can raise the ceiling, so both say which addition came after them.
-    """
-    found: Facts = {"last_plan": None, "last_ceiling": None}
-    added = None
-    for stored in newest_first:
-        answer = _answer(stored.line, stored.reply, header)
-        at = {"line": stored.number, "added_since": added}
-        if answer["kind"] in kinds.LOADED or all(found.values()):
-            break
-        if answer["kind"] == kinds.ADDED:
-            added = stored.number
-        elif not found["last_plan"] and (answer.get("ended") or answer.get("plan")):
-            found["last_plan"] = {**answer, **at}
-        elif not found["last_ceiling"] and answer.get("W"):
-            found["last_ceiling"] = {**_ceiling(answer, added, study), **at}
-    return found
+def best(library: Library, block: bytes, findings: Found) -> Facts:
+    """The best plan since the load, with its words."""
+    facts = found.best(library, block, findings)
+    return {**facts, "words": _best_words(facts)}
 
 
-def _ceiling(answer: Facts, added: int | None, study: Facts) -> Facts:
+def _ceiling(answer: Facts, study: Facts) -> Facts:
     """A certificate's ceiling. Rewriting keeps E, so without an addition since, the constant of now tells whether it is reached now."""
     parts = Fraction(answer["E"], answer["W"])
-    reached = None if added is not None else parts == study["constant"]
-    return {"E": answer["E"], "W": answer["W"], "points": str(parts / study["scale"]), "reached": reached}
+    reached = None if answer["added_since"] is not None else parts == study["constant"]
+    return {**{name: answer[name] for name in ("E", "W", "line", "added_since")}, "points": str(parts / study["scale"]), "reached": reached}
 
 
 def _rows(facts: Facts) -> Iterator[tuple[str, str]]:
@@ -159,16 +161,33 @@ def _rows(facts: Facts) -> Iterator[tuple[str, str]]:
     yield "forbidden", f"{counted(facts['forbidden_choices'], 'choice')}, {counted(facts['forbidden_pairs_of_choices'], 'pair of choices')}"
     if facts["order"] != list(range(len(facts["order"]))):
         yield "order", f"a search tries the trains in the order {' '.join(map(str, facts['order']))}"
-    yield "constant", f"{counted(facts['constant'], 'part')}, in points {_mixed(Fraction(facts['constant'], facts['scale']))}"
+    yield "constant", f"{counted(facts['constant'], 'part')}, in points {mixed(Fraction(facts['constant'], facts['scale']))}"
     yield "bound", "not told by the library" if facts["bound"] is None else counted(facts["bound"], "point")
+    yield "best plan", facts["best_plan"]["words"]
     yield "last plan", _plan_words(facts["last_plan"])
     yield "ceiling", _ceiling_words(facts["last_ceiling"])
+    if facts["names"]:
+        yield "names", "; ".join(f"{train}: {', '.join(choices)}" for train, choices in facts["names"])
+    if facts["names_left_out"]:
+        yield "names", facts["names_left_out"]
 
 
-def _mixed(number: Fraction) -> str:
+def mixed(number: Fraction) -> str:
     """A fraction as a whole number and what is left: 2 1/2."""
     whole, left = divmod(number, 1)
     return " ".join(str(part) for part in (whole, left) if part) or "0"
+
+
+def _best_words(best: Facts) -> str:
+    """A plan with its cost of now, and whether anything is left to be sought."""
+    if best["plan"] is None:
+        return f"there is none, by the search of line {best['line']}: settled" if best["settled"] else "none in the log"
+    return f"plan {' '.join(map(str, best['plan']))} costs {counted(best['cost'], 'point')} now, {settled(best)} (line {best['line']})"
+
+
+def settled(best: Facts) -> str:
+    """Whether anything is left to be sought."""
+    return "settled: no plan costs less" if best["settled"] else "not settled: a plan may cost less"
 
 
 def _plan_words(plan: Facts | None) -> str:
@@ -182,7 +201,7 @@ def _ceiling_words(ceiling: Facts | None) -> str:
     if ceiling is None:
         return "none in the log"
     reached = {True: "reached", False: "not reached", None: "of the costs before the addition"}[ceiling["reached"]]
-    points = _mixed(Fraction(ceiling["points"]))
+    points = mixed(Fraction(ceiling["points"]))
     return f"{ceiling['E']:,}/{ceiling['W']:,} parts, in points {points}, {reached} (line {ceiling['line']}{_since(ceiling, 'it may be higher now')})"
 
 

@@ -11,9 +11,9 @@ from pathlib import Path
 
 from hosting import checks, library, store
 from hosting.config import Config
-from hosting.library import Library
 from hosting.records import Address, Settings
 from hosting.store import Study
+from junction.native import Library
 
 ROOT = Path(__file__).resolve().parent.parent.parent
 HOST = ROOT / "host"

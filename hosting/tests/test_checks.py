@@ -8,10 +8,10 @@ from unittest import mock
 
 from hosting import checks, records, store
 from hosting.checks import Findings
-from hosting.header import Header
-from hosting.library import Library
 from hosting.store import NotServed, Unusable
 from hosting.tests.support import ADD, LINES, LOAD, REPLIES, SEARCH, TIGHTEN, DataCase, full_load
+from junction.lengths import Lengths
+from junction.native import Library
 
 LOG = "hosting.checks"
 # SQLite's pages, and the number of the next page with which a page of a long row begins.
@@ -275,12 +275,12 @@ class Carried(unittest.TestCase):
     def carried(self, *front: int) -> list[int]:
         """What the places from 6652 on hold of a block that begins so, the others being 0 to 6651 backwards; these stay."""
         block = [*front, *range(6651 - len(front), -1, -1)]
-        numbers = struct.unpack("<6676q", checks.carried(struct.pack("<6652q", *block), Header(6676, 74, 19836, 19836)))
+        numbers = struct.unpack("<6676q", checks.carried(struct.pack("<6652q", *block), Lengths(6676, 74, 19836, 19836)))
         self.assertEqual(list(numbers[:6652]), block)
         return list(numbers[6652:])
 
     def test_orders(self) -> None:
-        self.assertEqual(checks.carried(bytes(8 * 6652), Header(6676, 74, 19836, 19836)), bytes(8 * 6676))
+        self.assertEqual(checks.carried(bytes(8 * 6652), Lengths(6676, 74, 19836, 19836)), bytes(8 * 6676))
         for trains in (1, 2, 23, 24):
             self.assertEqual(self.carried(trains, 1), [*range(trains), *[0] * (24 - trains)])
 
@@ -292,7 +292,7 @@ class Carried(unittest.TestCase):
     def test_other_lengths_have_no_rule(self) -> None:
         for stored, taken in ((6651, 6676), (6675, 6676), (6677, 6676), (6652, 6653), (6676, 6652)):
             with self.assertRaisesRegex(NotServed, f"the block has {stored} numbers, those of the library have {taken}, and there is no rule"):
-                checks.carried(bytes(8 * stored), Header(taken, 74, 19836, 19836))
+                checks.carried(bytes(8 * stored), Lengths(taken, 74, 19836, 19836))
 
 
 class LibraryBefore(CheckedCase):

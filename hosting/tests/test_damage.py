@@ -9,13 +9,13 @@ from collections import Counter
 from contextlib import closing
 
 from hosting import checks, records, store
-from hosting.header import NUMBER_BYTES
 from hosting.records import Start
 from hosting.store import NotServed, StudyError
 from hosting.tests import support
 from hosting.tests.running import HostTest, ask
 from hosting.tests.support import LINES, REPLIES, SEARCH, DataCase
 from hosting.tests.traffic import FileHost
+from junction.lengths import NUMBER_BYTES
 
 # These two show what the block holds: a save its costs in points, a round its constant.
 SHOWN = [b"07", b"08"]

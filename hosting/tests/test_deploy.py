@@ -26,7 +26,7 @@ class Checkout:
     def __init__(self, folder: Path) -> None:
         self.root = folder / "checkout"
         self.prefix = folder / "prefix"
-        for name in ("deploy", "hosting", "include"):
+        for name in ("client", "deploy", "hosting", "include"):
             shutil.copytree(support.ROOT / name, self.root / name, ignore=shutil.ignore_patterns("__pycache__"))
         for name in ("host", "kit-version"):
             shutil.copy(support.ROOT / name, self.root)
@@ -74,7 +74,8 @@ class Installed(unittest.TestCase):
         self.assertEqual(run(self.prefix / "bin/junction").stdout, "program\n")
 
     def test_tests_are_not_installed(self) -> None:
-        self.assertFalse((self.in_use / "hosting/tests").exists())
+        for tests in ("hosting/tests", "client/tests"):
+            self.assertFalse((self.in_use / tests).exists())
 
     @unittest.skipUnless(shutil.which("systemd-analyze"), "there is no command systemd-analyze")
     def test_the_unit_is_verified(self) -> None:

@@ -6,26 +6,29 @@ from pathlib import Path
 from unittest import mock
 
 from hosting import header, library
-from hosting.header import Header, HeaderError
-from hosting.library import Library, LibraryError
+from hosting.header import HeaderError
 from hosting.tests import support
 from hosting.tests.support import DataCase
+from junction.errors import LibraryError
+from junction.lengths import BY_DOCUMENT, Lengths
+from junction.native import Library
 
 
 class Headers(unittest.TestCase):
     def test_the_header_says_the_lengths_of_document_01(self) -> None:
-        self.assertEqual(header.read(support.ROOT / "include/junction.h"), Header(6676, 74, 19836, 19836))
+        self.assertEqual(header.read(support.ROOT / "include/junction.h"), Lengths(6676, 74, 19836, 19836))
+        self.assertEqual(BY_DOCUMENT, Lengths(6676, 74, 19836, 19836))
 
     def test_a_length_is_a_number_or_the_name_of_another(self) -> None:
         text = "#define JUNCTION_BLOCK_NUMBERS 1\n#define JUNCTION_REPLY_BYTES 2\n#define JUNCTION_LINE_CHARACTERS 3\n"
         named = text + "#define JUNCTION_LONGEST_REPLY_BYTES JUNCTION_LINE_CHARACTERS\n"
-        self.assertEqual(header.parse(named), Header(1, 2, 3, 3))
+        self.assertEqual(header.parse(named), Lengths(1, 2, 3, 3))
         for wrong in ("", "#define JUNCTION_LONGEST_REPLY_BYTES JUNCTION_NOTHING\n"):
             with self.assertRaisesRegex(HeaderError, "JUNCTION_LONGEST_REPLY_BYTES"):
                 header.parse(text + wrong)
 
     def test_lengths_are_read_back_as_they_are_kept(self) -> None:
-        lengths = Header(5, 6, 7, 8)
+        lengths = Lengths(5, 6, 7, 8)
         self.assertEqual(header.parse(header.text(lengths)), lengths)
 
 

@@ -4,9 +4,11 @@ import json
 import re
 import unittest
 
-from hosting import header, kinds, library, words
+from hosting import header, library, names, words
 from hosting.records import Stored
 from hosting.tests import support
+from junction import kinds
+from junction.study import Choice, Study, Train
 
 HEADER = header.read(support.ROOT / "include/junction.h")
 TIME = "2026-01-31T12:00:00Z"
@@ -38,10 +40,37 @@ def digits(text: str) -> bytes:
     return text.replace(" ", "").encode()
 
 
-def in_words(line: str, reply: str) -> str:
+def in_words(line: str, reply: str, named: names.Since = names.NOTHING) -> str:
     """What the log says of one line and its reply."""
-    text, = words.log(HEADER, [Stored(1, TIME, "", digits(line), digits(reply), "")])
+    text, = words.log(HEADER, [Stored(1, TIME, "", digits(line), digits(reply), "")], named=named)
     return text.removeprefix(f"1  {TIME}  ")
+
+
+NAMED = Study((Train("RE 5", (Choice("early", 0), Choice("late", 0))), Train("S 1", (Choice("platform 1", 0), Choice("platform 2", 0)))))
+
+
+class Names(unittest.TestCase):
+    """Names stand behind the words of lines that tell of trains and choices by number."""
+
+    def test_lines_and_replies(self) -> None:
+        for line, reply, said in (
+            ("02 01 01 000003", "82 000000000002 000000000002", "add 3 points to train 1, choice 1 (S 1: platform 2)  ->  constant 2 parts, bound 2 points"),
+            ("06 0000000A", "86 01 00000003 000000000002 0001",
+             "search by at most 10 tries  ->  ended after 3 tries: plan 0 1 costs 2 points (RE 5: early, S 1: platform 2)"),
+            ("0A 01 00 00000002", "8A 02 00", "explain train 1, choice 0, against 2 points (S 1: platform 1)  ->  out, with train 0 (RE 5)"),
+            ("0B 01 00", "8B 01 00", "order 1 0 (S 1, RE 5)  ->  order 1 0 (S 1, RE 5)"),
+            ("0C 02 0100 000000000001 000000000001", "8C 02 0100",
+             "screen reads record of choices 1 0, bound 1 point, cost 1 point (RE 5: late, S 1: platform 1)  ->  choices 1 0 (RE 5: late, S 1: platform 1)"),
+            ("04", "84 000000000002 000000000002", "tighten  ->  constant 2 parts, bound 2 points"),
+        ):
+            self.assertEqual(in_words(line, reply, names.Since(NAMED, 1)), said)
+
+    def test_numbers_that_the_study_has_not(self) -> None:
+        for line in ("02 02 00 000001", "02 00 02 000001", "0B 00 01 02", "0E 00", "0E 00 02"):
+            self.assertNotIn("(", in_words(line, "FF 63", names.Since(NAMED, 1)))
+
+    def test_lines_before_the_load(self) -> None:
+        self.assertNotIn("(", in_words("02 01 01 000003", "82 000000000002 000000000002", names.Since(NAMED, 2)))
 
 
 class Log(unittest.TestCase):
@@ -233,6 +262,7 @@ class Show(unittest.TestCase):
             "forbidden 0 choices, 1 pair of choices",
             "constant  2 parts, in points 1",
             "bound     1 point",
+            "best plan plan 0 0 costs 1 point now, settled: no plan costs less (line 4)",
             "last plan ended after 2 tries: plan 0 0 costs 1 point, and no plan costs less (line 4)",
             "ceiling   8/2 parts, in points 2, not reached (line 3)",
         ])

@@ -3,5 +3,5 @@
 use std::io;
 
 fn main() -> io::Result<()> {
-    reference::session(io::stdin().lock(), io::BufWriter::new(io::stdout().lock()))
+    reference::session(io::stdin().lock(), io::stdout().lock())
 }

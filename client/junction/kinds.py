@@ -8,7 +8,7 @@ import re
 from collections.abc import Callable
 from typing import Any, NamedTuple
 
-from hosting.header import Header
+from junction.lengths import BY_DOCUMENT, Lengths
 
 Facts = dict[str, Any]
 
@@ -16,6 +16,8 @@ FRAME = re.compile(rb"(?:[0-9A-F]{2})+")
 DECLINED = 0xFF
 BUFFER_TOO_SMALL = 17
 NO_PLAN = 0xFF
+NO_PARTNER = 0xFF
+FORBIDDEN = 0xFFFFFF
 
 # What a line over train radio and the reply to it have more: 40, hexadecimal, in their kind, where that is not FF, and at their end a byte that
 # takes the sum of all their bytes to 0, modulo 256.
@@ -31,12 +33,13 @@ COST_WIDTH = 3
 WEIGHT_WIDTH = 3
 TRIES_WIDTH = 4
 LIMIT_WIDTH = 4
+LITERAL_WIDTH = 1
 FIGURE_WIDTH = 6
 MOVE_WIDTH = 6
 SUM_WIDTH = 8
 
-ENDED, ENDED_WITHOUT_PLAN = 1, 2
-OUT_BY_ITSELF, OUT_BY_PARTNER = 1, 2
+SPENT, ENDED, ENDED_WITHOUT_PLAN = 0, 1, 2
+NOT_OUT, OUT_BY_ITSELF, OUT_BY_PARTNER = 0, 1, 2
 
 PLURALS = {"try": "tries", "pair of choices": "pairs of choices"}
 
@@ -59,6 +62,11 @@ class Fields:
             raise CutShort
         self._at += width
         return int.from_bytes(field, "big")
+
+    def signed(self, width: int) -> int:
+        """The number in the next `width` bytes, in two's complement."""
+        number, all_of_them = self.number(width), 1 << 8 * width
+        return number - all_of_them if number >= all_of_them // 2 else number
 
     def numbers(self, count: int, width: int) -> list[int]:
         """So many numbers of one width."""
@@ -319,10 +327,10 @@ def _without_additions(text: bytes, added: int) -> bytes:
     return b"%02X" % (int(kind, 16) - added) + fields
 
 
-# The README's table of refusals, column 'When', in ASCII. What the header says of lengths is filled in by `reason`.
+# The README's table of refusals, column 'When', in ASCII. The lengths are filled in by `reason`.
 REFUSALS: dict[int, str] = {
     1: "the line is empty, has an odd count of characters or one that is not 0-9 or A-F",
-    2: "the line is over {header.line_characters:,} characters",
+    2: "the line is over {lengths.line_characters:,} characters",
     3: "there is no such kind",
     4: "kinds 02 to 08 and 0A to 0E on a fresh block",
     5: "a field is not wholly there, or bytes are left over",
@@ -337,7 +345,7 @@ REFUSALS: dict[int, str] = {
     14: "the weights' sums disagree",
     15: "the budget is outside 1 to 10,000,000",
     16: "the block has another length or is not well formed, its order of trains included",
-    17: "the reply buffer is below {header.reply_bytes} bytes, or shorter than the line or the record that it answers with",
+    17: "the reply buffer is below {lengths.reply_bytes} bytes, or shorter than the line or the record that it answers with",
     18: "a weight above 0 on a forbidden entry, after 14",
     19: "a clause has a literal of an absent train, a first literal of 0, or one train twice, of either sign",
     20: "the clauses name more than 48 pairs",
@@ -349,7 +357,7 @@ REFUSALS: dict[int, str] = {
 }
 
 
-def reason(number: int, header: Header) -> str | None:
+def reason(number: int, lengths: Lengths = BY_DOCUMENT) -> str | None:
     """Why a line is declined under this number, or nothing where the number is not known."""
     words = REFUSALS.get(number)
-    return words.format(header=header) if words else None
+    return words.format(lengths=lengths) if words else None
