@@ -55,12 +55,17 @@ def cost(library: Library, block: bytes, plan: Sequence[int]) -> int | None:
     if len(plan) != len(held.sizes):
         return None
     try:
-        shown = reply(library, block, lines.certify(ONE_PLAN, _weights(held, plan)))
+        shown = reply(library, block, plan_line(block, plan))
     except Failure:
         return None
     assert isinstance(shown, Ceiling)
     points, left = divmod(shown.E, held.scale)
     return None if left else points
+
+
+def plan_line(block: bytes, plan: Sequence[int]) -> str:
+    """The certificate whose weights are those of one plan, with W = 1."""
+    return lines.certify(ONE_PLAN, _weights(tables(block), plan))
 
 
 def _weights(held: Tables, plan: Sequence[int]) -> Iterator[int]:

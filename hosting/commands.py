@@ -10,10 +10,11 @@ from itertools import islice
 from pathlib import Path
 from typing import TypeAlias
 
-from hosting import checks, config, desk, library, lifting, server, store, stored, words
+from hosting import checks, config, desk, library, lifting, recheck, server, solving, store, stored, words
 from hosting.calling import NotReached
 from hosting.config import ConfigError
 from hosting.desk import WrongUse
+from hosting.page.command import page
 from hosting.printing import DONE, FAILED, FOUND, complain, note, print_json
 from hosting.records import Address, Damaged, Settings
 from hosting.store import NotServed, StudyError
@@ -38,7 +39,7 @@ def main(arguments: list[str]) -> int:
     """Carries out a command, and gives the exit status."""
     given = _parser().parse_args(arguments)
     try:
-        if given.command not in (add, desk.convert) and not given.data.is_dir():
+        if given.command not in (add, desk.convert) and given.data is not None and not given.data.is_dir():
             raise StudyError(f"there is no data folder {given.data}")
         status: int = given.command(given)
         sys.stdout.flush()
@@ -180,6 +181,7 @@ def _parser() -> argparse.ArgumentParser:
     _command(commands, "compact", compact)
     _convert_parser(commands)
     _desk_parsers(commands)
+    _page_parser(commands)
     return parser
 
 
@@ -205,6 +207,16 @@ def _convert_parser(commands: Commands) -> None:
     parser.add_argument("--json", action="store_true", help=OBJECT)
 
 
+def _recheck_parser(commands: Commands) -> None:
+    """The command that needs no data folder: where there is one, it keeps the proof with the study."""
+    parser = commands.add_parser("recheck", help=recheck.recheck.__doc__, description=recheck.recheck.__doc__)
+    parser.set_defaults(command=recheck.recheck)
+    where = f"the data folder with the study, by {DATA} of the environment unless given"
+    parser.add_argument("--data", type=Path, default=os.environ.get(DATA) or None, metavar="DIR", help=where)
+    parser.add_argument("--json", action="store_true", help=OBJECT)
+    parser.add_argument("file", type=Path, metavar="FILE", help="the proof, as solve --proof writes it")
+
+
 def _desk_parsers(commands: Commands) -> None:
     """The commands of planners."""
     imported = _client(_command(commands, "import", desk.import_study))
@@ -216,10 +228,23 @@ def _desk_parsers(commands: Commands) -> None:
     exported.add_argument("--to", dest="kind", metavar="FORMAT", help=f"its format, where its suffix does not say it: {', '.join(FORMATS)}")
     lifted = _client(_command(commands, "lift", lifting.lift))
     lifted.add_argument("--ceiling", action="store_true", help="by a linear programme, with the ceiling that no shift can pass")
+    solved = _client(_command(commands, "solve", solving.solve))
+    solved.add_argument("--seconds", type=_seconds, metavar="N", help="end after so many seconds, with the best plan so far")
+    solved.add_argument("--proof", type=Path, metavar="FILE", help="write what recheck takes: the lines that settle each part, and the parts that are open")
+    solved.add_argument("--resume", type=Path, metavar="FILE", help="go on from what was written by --proof")
+    _recheck_parser(commands)
     _command(commands, "plan", desk.plan)
     sent = _client(_command(commands, "send", desk.send))
     sent.add_argument("asking", nargs="+", metavar="WORD", help="tighten, round, search N, add TRAIN CHOICE POINTS, save, or a line as it stands")
     _command(commands, "watch", desk.watch, json="print a JSON object for each line")
+
+
+def _page_parser(commands: Commands) -> None:
+    """The command that shows the studies in a browser."""
+    shown = _command(commands, "page", page, named=False, json=None)
+    shown.add_argument("--port", type=_port, required=True, metavar="N", help="a TCP port")
+    bind = f"the IP address to listen on, {LOOPBACK} unless given; other than loopback needs TLS and a client CA"
+    shown.add_argument("--bind", type=_bind, metavar="ADDRESS", help=bind)
 
 
 def _client(parser: argparse.ArgumentParser) -> argparse.ArgumentParser:
@@ -260,6 +285,12 @@ def _scale(text: str) -> int:
     if not (text.isascii() and text.isdecimal()) or not 1 <= int(text) <= SCALE_MOST:
         raise argparse.ArgumentTypeError(f"not a scale from 1 to {SCALE_MOST}: {text}")
     return int(text)
+
+
+def _seconds(text: str) -> float:
+    if not (text.isascii() and text.isdecimal()) or int(text) == 0:
+        raise argparse.ArgumentTypeError(f"not a number of seconds from 1: {text}")
+    return float(text)
 
 
 def _count(text: str) -> int:

@@ -3,8 +3,9 @@
 An addition makes plans dearer and can raise a ceiling, so both say which addition came after them.
 """
 
-from collections.abc import Iterable, Iterator
+from collections.abc import Iterable, Iterator, Sequence
 from dataclasses import dataclass, field
+from itertools import accumulate
 
 from hosting import asked
 from junction import kinds
@@ -22,6 +23,8 @@ class Found:
     added: int | None = None
     # Each plan that a search found, with the number of the last line that shows it.
     plans: dict[tuple[int, ...], int] = field(default_factory=dict)
+    # The same of each plan that a certificate with W = 1 shows, by the places of its weights.
+    shown: dict[tuple[int, ...], int] = field(default_factory=dict)
     # The last search that ended with a plan and after which nothing was added, and the last one that ended since there is no plan.
     ended: int | None = None
     without_plan: int | None = None
@@ -36,6 +39,8 @@ class Found:
             self._take_search(number, answer)
         elif answer.get("W"):
             self.ceiling = self.ceiling or {**answer, **at}
+            if "places" in answer:
+                self.shown.setdefault(answer["places"], number)
 
     def _take_search(self, number: int, answer: Facts) -> None:
         if not answer["plan"]:
@@ -72,7 +77,16 @@ def best(library: Library, block: bytes, found: Found) -> Facts:
 
 def _costs(library: Library, block: bytes, found: Found) -> Iterator[tuple[list[int], int, int]]:
     """Each plan found with what it costs now, and the last line that shows it."""
-    for plan, line in found.plans.items():
+    plans, sizes = dict(found.plans), asked.tables(block).sizes
+    for places, line in found.shown.items():
+        plan = _plan(places, sizes)
+        plans[plan] = max(line, plans.get(plan, line))
+    for plan, line in plans.items():
         cost = asked.cost(library, block, plan)
         if cost is not None:
             yield list(plan), cost, line
+
+
+def _plan(places: Sequence[int], sizes: Sequence[int]) -> tuple[int, ...]:
+    """The plan of a certificate with W = 1: each train has one weight among those of its choices, and the trains' stand before the pairs'."""
+    return tuple(place - begins for place, begins in zip(places, accumulate(sizes[:-1], initial=0)))

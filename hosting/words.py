@@ -94,7 +94,16 @@ def _declined(number: int, lengths: Lengths) -> Facts:
 def answers(lengths: Lengths, newest_first: Iterable[Stored]) -> Iterator[tuple[int, Facts]]:
     """What the replies to stored lines say, each with the line's number."""
     for stored in newest_first:
-        yield stored.number, _answer(stored.line, stored.reply, lengths)
+        answer = _answer(stored.line, stored.reply, lengths)
+        yield stored.number, {**answer, "places": _places(stored.line)} if answer.get("W") == asked.ONE_PLAN else answer
+
+
+def _places(certificate: bytes) -> tuple[int, ...]:
+    """The places of a certificate's weights that are not 0. With W = 1 these are the choices of a plan, train by train, and behind them its pairs'."""
+    fields = kinds.Fields(kinds.plain_line(certificate) or certificate)
+    fields.numbers(kinds.KIND_WIDTH + kinds.WEIGHT_WIDTH, kinds.COUNT_WIDTH)
+    weights = fields.numbers(fields.left(kinds.WEIGHT_WIDTH), kinds.WEIGHT_WIDTH)
+    return tuple(place for place, weight in enumerate(weights) if weight)
 
 
 def show(library: Library, block: bytes, newest_first: Iterable[Stored], as_json: bool = False, named: Named = names.UNNAMED) -> str:

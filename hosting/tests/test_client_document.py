@@ -7,6 +7,7 @@ import re
 import shutil
 
 import junction
+from hosting import library
 from hosting.tests import support
 from hosting.tests.running import HostTest
 from junction.formats import FORMATS
@@ -20,12 +21,13 @@ ADDRESS = "127.0.0.1:7001"
 class Examples(HostTest):
     def test_what_they_print(self) -> None:
         examples = EXAMPLE.findall(DOCUMENT)
-        self.assertEqual((len(examples), DOCUMENT.count("```")), (3, 4 * len(examples)))
+        self.assertEqual((len(examples), DOCUMENT.count("```")), (4, 4 * len(examples)))
         self.assertIn(ADDRESS, examples[0][0])
         host = self.running("north")
         self.addCleanup(os.chdir, os.getcwd())
         os.chdir(host.data)
         shutil.copy(support.ROOT / "examples/north.csv", host.data)
+        shutil.copy(library.installed().path, host.data / "libjunction.so")
         names: dict[str, object] = {}
         for code, expected in examples:
             with contextlib.redirect_stdout(io.StringIO()) as printed:

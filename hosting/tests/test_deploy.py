@@ -6,10 +6,11 @@ import shutil
 import subprocess
 import tempfile
 import unittest
+import urllib.request
 from pathlib import Path
 
 from hosting import library
-from hosting.tests import support
+from hosting.tests import running, support
 
 SECONDS = 60
 PROGRAM = "#!/bin/sh\necho program\n"
@@ -77,13 +78,43 @@ class Installed(unittest.TestCase):
         for tests in ("hosting/tests", "client/tests"):
             self.assertFalse((self.in_use / tests).exists())
 
+    def test_all_commands_are_there(self) -> None:
+        helping = run(self.prefix / "bin/junction-host", "--help")
+        self.assertEqual((helping.returncode, helping.stderr), (0, ""))
+        for command in ("serve", "solve", "recheck", "page"):
+            self.assertRegex(helping.stdout, rf"\n +{command} ")
+
+    def test_the_page_needs_no_checkout(self) -> None:
+        host, data = self.prefix / "bin/junction-host", self.folder / "shown"
+        self.assertEqual(run(host, "add", "north", "--port", str(running.free_port()), "--data", data).stderr, "")
+        port, log = running.free_port(), self.folder / "page.log"
+        with open(log, "wb") as error:
+            page = subprocess.Popen([host, "page", "--data", data, "--port", str(port)], stderr=error)
+        self.addCleanup(page.wait, SECONDS)
+        self.addCleanup(page.terminate)
+        running.until(lambda: f"http://127.0.0.1:{port}/" in log.read_text(), "the page is shown")
+        for path, said in (("/studies/north", "Nothing loaded"), ("/style.css", "{"), ("/script.js", "EventSource")):
+            with urllib.request.urlopen(f"http://127.0.0.1:{port}{path}", timeout=SECONDS) as answer:
+                self.assertIn(said, answer.read().decode())
+
     @unittest.skipUnless(shutil.which("systemd-analyze"), "there is no command systemd-analyze")
-    def test_the_unit_is_verified(self) -> None:
-        unit = self.in_use / "junction-host.service"
-        verifying = run("systemd-analyze", "verify", "--man=no", unit)
-        self.assertEqual(verifying.returncode, 0, verifying.stderr)
-        self.assertNotIn("junction-host", verifying.stderr)
-        self.assertIn(f"ExecStart={self.prefix}/lib/junction/host serve --data /var/lib/junction\n", unit.read_text())
+    def test_the_units_are_verified(self) -> None:
+        for name, starts in (("host", "serve --data /var/lib/junction"), ("page", "page --data /run/junction-page --port 8080")):
+            unit = self.in_use / f"junction-{name}.service"
+            verifying = run("systemd-analyze", "verify", "--man=no", unit)
+            self.assertEqual(verifying.returncode, 0, verifying.stderr)
+            self.assertNotIn(f"junction-{name}", verifying.stderr)
+            self.assertIn(f"ExecStart={self.prefix}/lib/junction/host {starts}\n", unit.read_text())
+
+    def test_the_page_reads_only(self) -> None:
+        host, page = ((self.in_use / f"junction-{name}.service").read_text().splitlines() for name in ("host", "page"))
+        self.assertIn("BindReadOnlyPaths=/var/lib/private/junction:/run/junction-page", page)
+        for setting in ("StateDirectory", "RuntimeDirectory", "CacheDirectory", "LogsDirectory", "ReadWritePaths", "BindPaths"):
+            self.assertFalse([line for line in page if line.startswith(f"{setting}=")])
+        hardening = host[host.index("NoNewPrivileges=yes"):]
+        self.assertEqual([line for line in hardening if line not in page], ["RestrictAddressFamilies=AF_INET AF_INET6 AF_UNIX"])
+        for setting in ("DynamicUser=yes", "User=junction-host"):
+            self.assertIn(setting, page)
 
     def test_commands_run_as_the_service_does(self) -> None:
         unit, command = (self.in_use / name for name in ("junction-host.service", "junction-host-command"))
