@@ -145,7 +145,7 @@ def verify(given: argparse.Namespace) -> int:
 def show(given: argparse.Namespace) -> int:
     """Prints a study in words."""
     with stored.now(given.data, given.name, library.installed()) as now:
-        print(words.show(now.library, now.block, now.records.newest_first(), given.json, now.named()))
+        print(words.show(now.library, now.block, now.records.newest_first(), given.json, now.named(), now.proof()))
     return DONE
 
 

@@ -84,7 +84,7 @@ def export(given: argparse.Namespace) -> int:
 def plan(given: argparse.Namespace) -> int:
     """Shows the best plan since the study was loaded, with what it costs now, and whether the study is settled."""
     with stored.loaded(given.data, given.name, libraries.installed()) as now:
-        study, named, best = asked.saved(now.library, now.block), now.named(), words.best(now.library, now.block, now.found())
+        study, named, best = asked.saved(now.library, now.block), now.named(), words.best(now.library, now.block, now.found(), now.proof())
     by_train = best["plan"] and (named.study or study).by_train(best["plan"])
     if given.json:
         return print_json({"study": given.name, **best, "by_train": by_train, "names_left_out": named.left_out})

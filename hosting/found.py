@@ -8,6 +8,7 @@ from dataclasses import dataclass, field
 from itertools import accumulate
 
 from hosting import asked
+from hosting.kept import Kept
 from junction import kinds
 from junction.kinds import Facts
 from junction.native import Library
@@ -61,22 +62,24 @@ def since_load(answers: Iterable[tuple[int, Facts]]) -> Found:
     return found
 
 
-def best(library: Library, block: bytes, found: Found) -> Facts:
+def best(library: Library, block: bytes, found: Found, proof: Kept | None = None) -> Facts:
     """The plan of those found that costs least now, with the bound, and whether the study is settled: no plan costs less, or there is no plan.
 
-    Settled is a plan that costs the bound, or that is there when a search has ended and nothing was added since. Where a search has ended without a
-    plan there is none until a load, since additions permit nothing.
+    Settled is a plan that costs the bound, or that is there when a search has ended and nothing was added since, or that costs what a kept proof of these
+    costs says. Where a search has ended without a plan, or such a proof says that there is none, there is none until a load, since additions permit nothing.
     """
     bound = asked.bound(library, block)
-    costs = sorted(_costs(library, block, found), key=lambda costing: (costing[1], -costing[2]))
+    costs = sorted(_costs(library, block, found, proof), key=lambda costing: (costing[1], -(costing[2] or 0)))
     if not costs:
-        return {"plan": None, "cost": None, "bound": bound, "settled": found.without_plan is not None, "line": found.without_plan}
+        none = found.without_plan is not None or (proof is not None and proof.plan is None)
+        return {"plan": None, "cost": None, "bound": bound, "settled": none, "line": found.without_plan}
     plan, cost, line = costs[0]
-    return {"plan": plan, "cost": cost, "bound": bound, "settled": cost == bound or found.ended is not None, "line": line}
+    settled = cost == bound or found.ended is not None or (proof is not None and proof.cost == cost)
+    return {"plan": plan, "cost": cost, "bound": bound, "settled": settled, "line": line}
 
 
-def _costs(library: Library, block: bytes, found: Found) -> Iterator[tuple[list[int], int, int]]:
-    """Each plan found with what it costs now, and the last line that shows it."""
+def _costs(library: Library, block: bytes, found: Found, proof: Kept | None) -> Iterator[tuple[list[int], int, int | None]]:
+    """Each plan found with what it costs now, and the last line that shows it; that of a kept proof, where it costs what the proof says, no line need show."""
     plans, sizes = dict(found.plans), asked.tables(block).sizes
     for places, line in found.shown.items():
         plan = _plan(places, sizes)
@@ -85,6 +88,8 @@ def _costs(library: Library, block: bytes, found: Found) -> Iterator[tuple[list[
         cost = asked.cost(library, block, plan)
         if cost is not None:
             yield list(plan), cost, line
+    if proof is not None and proof.plan is not None and asked.cost(library, block, proof.plan) == proof.cost is not None:
+        yield list(proof.plan), proof.cost, None
 
 
 def _plan(places: Sequence[int], sizes: Sequence[int]) -> tuple[int, ...]:

@@ -5,12 +5,13 @@ from contextlib import contextmanager
 from pathlib import Path
 from typing import NamedTuple
 
-from hosting import asked, checks, found, names, records, store, words
+from hosting import asked, checks, found, kept, names, records, store, words
 from hosting.found import Found
+from hosting.kept import Kept
 from hosting.names import Named, Since
 from hosting.records import Records
 from hosting.store import StudyError
-from junction import kinds
+from junction import kinds, lines
 from junction.block import TRAINS
 from junction.native import Library
 
@@ -31,6 +32,10 @@ class Now(NamedTuple):
     def found(self) -> Found:
         """What the lines since the load have found."""
         return found.since_load(words.answers(self.library.header, self.records.newest_first()))
+
+    def proof(self) -> Kept | None:
+        """What the proof says that is kept of the costs of now."""
+        return kept.proof(self.folder, lines.load(asked.saved(self.library, self.block))) if self.loaded else None
 
     def named(self) -> Named:
         """The names that are kept for the study."""

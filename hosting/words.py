@@ -6,6 +6,7 @@ from fractions import Fraction
 
 from hosting import asked, found, names
 from hosting.found import Found
+from hosting.kept import Kept
 from hosting.names import Named
 from hosting.records import Stored
 from junction import kinds
@@ -106,11 +107,12 @@ def _places(certificate: bytes) -> tuple[int, ...]:
     return tuple(place for place, weight in enumerate(weights) if weight)
 
 
-def show(library: Library, block: bytes, newest_first: Iterable[Stored], as_json: bool = False, named: Named = names.UNNAMED) -> str:
+def show(library: Library, block: bytes, newest_first: Iterable[Stored], as_json: bool = False, named: Named = names.UNNAMED,
+         proof: Kept | None = None) -> str:
     """The study that a block holds, with the best plan, the last plan and the last ceiling since it was loaded, in words or as JSON."""
     facts = _study(block, library)
     if facts["loaded"]:
-        facts.update(_found(library, block, newest_first, facts, named.study), names=names.listed(named.study), names_left_out=named.left_out)
+        facts.update(_found(library, block, newest_first, facts, named.study, proof), names=names.listed(named.study), names_left_out=named.left_out)
     if as_json:
         return json.dumps(facts)
     return "\n".join(f"{title:<10}{words}" for title, words in _rows(facts))
@@ -135,19 +137,19 @@ def _study(block: bytes, library: Library) -> Facts:
     }
 
 
-def _found(library: Library, block: bytes, newest_first: Iterable[Stored], facts: Facts, study: Study | None) -> Facts:
+def _found(library: Library, block: bytes, newest_first: Iterable[Stored], facts: Facts, study: Study | None, proof: Kept | None) -> Facts:
     """What was found since the load: the plan that is best now, the last plan (or that there is none) and the last ceiling."""
     findings = found.since_load(answers(library.header, newest_first))
     return {
-        "best_plan": names.told(best(library, block, findings), study),
+        "best_plan": names.told(best(library, block, findings, proof), study),
         "last_plan": findings.last and names.told(findings.last, study),
         "last_ceiling": findings.ceiling and _ceiling(findings.ceiling, facts),
     }
 
 
-def best(library: Library, block: bytes, findings: Found) -> Facts:
+def best(library: Library, block: bytes, findings: Found, proof: Kept | None = None) -> Facts:
     """The best plan since the load, with its words."""
-    facts = found.best(library, block, findings)
+    facts = found.best(library, block, findings, proof)
     return {**facts, "words": _best_words(facts)}
 
 
@@ -190,8 +192,13 @@ def mixed(number: Fraction) -> str:
 def _best_words(best: Facts) -> str:
     """A plan with its cost of now, and whether anything is left to be sought."""
     if best["plan"] is None:
-        return f"there is none, by the search of line {best['line']}: settled" if best["settled"] else "none in the log"
-    return f"plan {' '.join(map(str, best['plan']))} costs {counted(best['cost'], 'point')} now, {settled(best)} (line {best['line']})"
+        return f"there is none, by {_shown(best, 'the search of line')}: settled" if best["settled"] else "none in the log"
+    return f"plan {' '.join(map(str, best['plan']))} costs {counted(best['cost'], 'point')} now, {settled(best)} ({_shown(best, 'line')})"
+
+
+def _shown(best: Facts, by_line: str) -> str:
+    """What shows a plan, or that there is none."""
+    return "a kept proof" if best["line"] is None else f"{by_line} {best['line']}"
 
 
 def settled(best: Facts) -> str:

@@ -4,24 +4,20 @@
 search that ended after the last addition, or beside a proof that is kept of these very costs.
 """
 
-import json
 import os
-from collections.abc import Iterator
-from hashlib import sha256
 from pathlib import Path
 from typing import NamedTuple
 
-from hosting import asked
+from hosting import asked, kept
+from hosting.kept import Kept
 from hosting.page.findings import Findings, Plan
 from hosting.page.following import Seen
 from hosting.store import Unusable
 from junction import lines
 from junction.kinds import counted
-from junction.study import SCALE
 
 UNREADABLE, NOTHING, NO_PLAN_YET, UNSETTLED, PUBLISH, NO_PLAN = "unreadable", "nothing", "no plan yet", "unsettled", "publish", "no plan"
 BY_BOUND, BY_SEARCH, BY_PROOF = "bound", "search", "proof"
-PROOFS = "proofs"
 OF_THESE_COSTS = "a proof of these very costs is kept"
 
 
@@ -31,13 +27,6 @@ class Best(NamedTuple):
     plan: Plan
     cost: int
     line: int | None
-
-
-class Kept(NamedTuple):
-    """What a proof that is kept of these costs says: a plan and the least cost, or that there is no plan."""
-
-    plan: Plan | None
-    cost: int | None
 
 
 class Ground(NamedTuple):
@@ -85,9 +74,9 @@ def _judge(seen: Seen) -> Judged:
     bound = asked.bound(seen.library, seen.block)
     if bound is None:
         raise Unusable(f"study {seen.name} cannot be used: the library does not tell its bound")
-    kept = _kept(seen, saved(seen))
-    best = min(filter(None, (_found(seen), _proved(seen, kept))), key=lambda one: one.cost, default=None)
-    ground = _none(seen.findings, kept) if best is None else _ground(seen.findings, bound, best, kept)
+    proof = kept.proof(seen.folder, saved(seen))
+    best = min(filter(None, (_found(seen), _proved(seen, proof))), key=lambda one: one.cost, default=None)
+    ground = _none(seen.findings, proof) if best is None else _ground(seen.findings, bound, best, proof)
     return Judged(*_sentence(bound, best, ground), bound, best, ground)
 
 
@@ -113,70 +102,35 @@ def _found(seen: Seen) -> Best | None:
     return None
 
 
-def _proved(seen: Seen, kept: Kept | None) -> Best | None:
+def _proved(seen: Seen, proof: Kept | None) -> Best | None:
     """The plan of the kept proof, where it costs now what the proof says."""
-    if kept is None or kept.plan is None:
+    if proof is None or proof.plan is None:
         return None
-    cost = asked.cost(seen.library, seen.block, kept.plan)
-    return None if cost is None or cost != kept.cost else Best(kept.plan, cost, None)
+    cost = asked.cost(seen.library, seen.block, proof.plan)
+    return None if cost is None or cost != proof.cost else Best(proof.plan, cost, None)
 
 
-def _none(found: Findings, kept: Kept | None) -> Ground | None:
+def _none(found: Findings, proof: Kept | None) -> Ground | None:
     """Why there is no plan, where that is known."""
     if found.without_plan is not None:
         return Ground(BY_SEARCH, found.without_plan, f"a search ended without a plan (line {found.without_plan})")
-    return None if kept is None or kept.plan is not None else Ground(BY_PROOF, None, OF_THESE_COSTS)
+    return None if proof is None or proof.plan is not None else Ground(BY_PROOF, None, OF_THESE_COSTS)
 
 
-def _ground(found: Findings, bound: int, best: Best, kept: Kept | None) -> Ground | None:
+def _ground(found: Findings, bound: int, best: Best, proof: Kept | None) -> Ground | None:
     """Why no plan costs less than the best one, where that is known."""
     if best.cost == bound:
         line = found.since(lambda figures: figures.bound == bound and figures.best == best.cost) or found.since(lambda figures: figures.bound == bound)
         return Ground(BY_BOUND, line, f"the bound equals the cost (line {line})")
     if found.ended is not None:
         return Ground(BY_SEARCH, found.ended, f"a search ended (line {found.ended}) and nothing was added since")
-    return None if kept is None or kept.cost != best.cost else Ground(BY_PROOF, None, OF_THESE_COSTS)
+    return None if proof is None or proof.cost != best.cost else Ground(BY_PROOF, None, OF_THESE_COSTS)
 
 
 def _proofs(folder: Path) -> frozenset[tuple[str, int, int]]:
     """The proofs that are kept: each by its name, its length and when it was changed."""
     try:
-        with os.scandir(folder / PROOFS) as entries:
+        with os.scandir(folder / kept.FOLDER) as entries:
             return frozenset((entry.name, entry.stat().st_size, entry.stat().st_mtime_ns) for entry in entries)
     except OSError:
         return frozenset()
-
-
-def _kept(seen: Seen, save: str) -> Kept | None:
-    """The proof that is kept of these costs, whatever parts a point has in it, since costs are in points."""
-    for line in dict.fromkeys((save, lines.with_scale(save, SCALE))):
-        kept = _read(seen.folder / PROOFS / sha256(line.encode("ascii")).hexdigest(), line)
-        if kept is not None:
-            return kept
-    return None
-
-
-def _read(path: Path, save: str) -> Kept | None:
-    """What a kept proof says. One that is of other costs, cut, or open somewhere says nothing."""
-    try:
-        with open(path, encoding="ascii") as file:
-            first = json.loads(next(file, ""))
-            last = json.loads(_last(file))
-        if first != {"save": save} or last.keys() != {"plan", "cost"}:
-            return None
-        plan, cost = last["plan"], last["cost"]
-        if plan is None and cost is None:
-            return Kept(None, None)
-        return Kept(tuple(map(int, plan)), int(cost))
-    except (OSError, ValueError, TypeError, AttributeError):
-        return None
-
-
-def _last(file: Iterator[str]) -> str:
-    """The last line. Where a part is open there is none."""
-    last = ""
-    for line in file:
-        if line.startswith('{"open"'):
-            return ""
-        last = line
-    return last

@@ -9,12 +9,11 @@ from pathlib import Path
 from typing import NamedTuple
 from urllib.parse import parse_qsl, unquote, urlsplit
 
-from hosting import store
+from hosting import kept, store
 from hosting.page import html
 from hosting.page.facts import facts, overview
 from hosting.page.following import Studies
 from hosting.page.html import Chosen
-from hosting.page.judging import PROOFS
 from hosting.store import StudyError, Unusable
 from junction.kinds import Facts
 
@@ -109,7 +108,7 @@ class Routes:
     def _proofs(self, name: str) -> int:
         """When a proof of a study was kept last."""
         try:
-            return (store.database(self._studies.data, name).parent / PROOFS).stat().st_mtime_ns
+            return (store.database(self._studies.data, name).parent / kept.FOLDER).stat().st_mtime_ns
         except OSError:
             return 0
 

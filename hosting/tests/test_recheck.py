@@ -276,6 +276,28 @@ class Command(RecheckTest):
         status, printed, _ = self.run_command(self.proof(), *in_data, "--json")
         self.assertEqual(json.loads(printed), {"file": str(self.file), "wrong": None, "cost": 4, "parts": 3, "kept": ["study"]})
 
+    def test_plan_and_show_go_by_it_until_costs_change(self) -> None:
+        self.add()
+        self.take([SAVE.encode()])
+        self.assertEqual(self.best(), (None, None, False, None))
+        rows = self.proof()
+        self.run_command(rows, "--data", str(self.data))
+        self.assertEqual(self.best(), (rows[-1]["plan"], 4, True, None))
+        self.assertIn("costs 4 points now, settled: no plan costs less (a kept proof)\n", self.printed("show", "study"))
+        self.take([lines.add(0, 1, 1).encode()])
+        self.assertEqual(self.best(), (None, None, False, None))
+
+    def best(self) -> tuple[list[int] | None, int | None, bool, int | None]:
+        """What `plan` says: the plan, what it costs, whether the study is settled, and the line that shows it."""
+        facts = json.loads(self.printed("plan", "study", "--json"))
+        return facts["plan"], facts["cost"], facts["settled"], facts["line"]
+
+    def printed(self, *arguments: str) -> str:
+        """What a command prints."""
+        with redirect_stdout(io.StringIO()) as printed:
+            self.assertEqual(commands.main([*arguments, "--data", str(self.data)]), DONE)
+        return printed.getvalue()
+
     def test_one_that_is_wrong_is_not_kept(self) -> None:
         self.add()
         self.take([SAVE.encode()])
