@@ -6,6 +6,7 @@ ghost use Rattle.frames.specs.Fields.{max_width, field, signed};
 use crate::digits;
 
 // The number of `width` bytes from byte `at` on.
+#[inline(always)]
 #[tactic(auto, using(crate::proofs::Bytes::byte_most, crate::proofs::Widths::field_fits), unfolding(crate::specs::Fields::field))]
 pub fn field(line: &[u8], at: usize, width: usize) -> u64
     requires { (2 * (at + width) ≤ length line.now) × (width ≤ max_width) }

@@ -34,6 +34,8 @@ fn is_cost(v: u64) -> bool
 }
 
 // One field: declined where it is not wholly there, else judged by its rule. Where any number will do, it is not read.
+// It is inlined, so that a run of fields is a loop for each rule.
+#[inline(always)]
 #[tactic(auto, using(frames::proofs::Bytes::framed_whole, frames::proofs::Widths::field_below), unfolding(crate::specs::Verdicts::field_verdict))]
 pub fn field_verdict(frame: Frame<'_>, f: Field) -> Verdict
     requires { (f.at < 2 ^ 40) × (f.width ≤ max_width) }
