@@ -8,7 +8,7 @@ const NO_DIGIT: u8 = 16;
 
 // The value of a digit, NO_DIGIT where the character is none.
 #[tactic(auto, unfolding(crate::specs::Digits::digit, crate::specs::Digits::place_of))]
-fn value(c: u8) -> u8
+pub fn value(c: u8) -> u8
     ensures { result ≡ digit c }
 {
     match c {

@@ -41,7 +41,7 @@ pub const SIZE: Field = Field {
 };
 
 // A cost of a load, at byte `at`.
-fn cost_field(at: usize) -> Field
+pub fn cost_field(at: usize) -> Field
     ensures { result ≡ cost_field at }
 {
     Field {

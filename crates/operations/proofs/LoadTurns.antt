@@ -22,7 +22,7 @@ use Rattle.tables.specs.Plans.{Shape}
 use Rattle.tables.specs.Counts.{rows_of, columns_of, pair_entries, choices_before, entries_before}
 use Rattle.tables.specs.Numbers.{Numbers, InRange, numbers_shape, forbidden_cost, is_cost}
 use Rattle.tables.proofs.Prices.{forbids, permitted, priced_is}
-use Rattle.operations.specs.Load.{head_loaded, sizes_loaded, pairs_loaded, run_loaded, choices_loaded, pair_loaded, entries_loaded, order_loaded, loaded_block, cost_loaded, SizesIn, CostsIn}
+use Rattle.operations.specs.Load.{head_loaded, sizes_loaded, pairs_loaded, run_loaded, choices_loaded, pair_loaded, entries_loaded, order_loaded, loaded_block, cost_loaded, SizesIn, PairsIn, CostsIn}
 
 -- ---- the turns of the loops
 
@@ -113,6 +113,10 @@ module _ {l : Numbers} (r : InRange l) where
 
   pub in_sizes : SizesIn l.sizes
   in_sizes = record { few = r.trains.1; small = λ i h. (r.sizes i h).1 }
+
+  -- the trains of the pairs, for any bound that the trains keep
+  pub in_pairs : (n : ℕ) → length l.sizes ≤ n → PairsIn n l.firsts l.seconds
+  in_pairs n h = record { few = r.pairs.0; same = r.pairs.1; first = λ k q. omega (arith, r.below k q); second = λ k q. omega (arith, r.below k q) }
 
   -- a pair has at most 8 rows and 8 columns
   pub pair_lanes : (k : ℕ) → k < length l.firsts → (rows_of (numbers_shape l) k ≤ max_choices) × (columns_of (numbers_shape l) k ≤ max_choices)

@@ -118,6 +118,9 @@ wrote_end {d} {b} {at} {r} p o h = omega (arith, o.count, length-append (take at
 pub wrote_taken : {d reply b : List ℕ} {n : ℕ} → Wrote d reply b n → take n b ≡ reply
 wrote_taken {d} {reply} o = rw (o.front, o.count) (take_at reply (drop (length reply) d) (length reply) refl)
 
+pub wrote_length : {d reply b : List ℕ} {n : ℕ} → Wrote d reply b n → length (take n b) ≡ n
+wrote_length o = ap length (wrote_taken o) ∙ sym o.count
+
 -- what lies behind the reply stays
 pub written_behind : (reply buffer : List ℕ) (k : ℕ) → get_or (written reply buffer) (length reply + k) 0 ≡ get_or buffer (length reply + k) 0
 written_behind reply buffer k = get_or-append-add reply (drop (length reply) buffer) k 0 ∙ get_or-drop (length reply) buffer k 0

@@ -62,6 +62,9 @@ limits_most b p =
     (choose (ltb p held_entries_from) (used_cost (entry_used b (p - loaded_entries_from)) max_cost (omega arith)) (used_cost (entry_used b (p - held_entries_from)) max_parts (omega arith)))))
     (used (ltb (p - order_from) (trains b)) 0 (max_trains - 1) (omega arith)))
 
+pub nat_room : (z : ℤ) (n : ℕ) → z ≡ pos n → mag z ≡ n
+nat_room z n e = rw e
+
 past_end : (b : List ℤ) (p : ℕ) → at b p ≡ pos 0 → mag (at b p) ≤ max_parts
 past_end b p e = rw e (omega arith)
 

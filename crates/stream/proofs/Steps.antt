@@ -12,7 +12,7 @@ use lib.ListN.{length, take, drop, set, get_or, length-take, length-append, leng
 use lib.Seq.{take_all, take-take, take-append-add, length-take-le, drop-cons, set_at}
 use borrow.Author.Tests.{lt-ltb, le-ltb, ltb-true, ltb-false, ne_eqb}
 use Rattle.replies.specs.Wrote.{Wrote}
-use Rattle.replies.proofs.Writing.{wrote_none}
+use Rattle.replies.proofs.Writing.{wrote_none, wrote_length}
 use Rattle.requests.specs.Answer.{Answer, answered}
 use Rattle.requests.specs.Wrote.{Answers}
 use Rattle.radio.specs.Answer.{longest_form}
@@ -116,6 +116,9 @@ module _ (line : List ℕ) (b : List ℤ) (part buffer : List ℕ) {n : ℕ} {af
       (record { used = omega (arith, ends); kept = refl; printed = rw (← grown_line) a })
 
 -- ---- how much a step takes, prints and keeps
+
+pub written-length : {a : Answer} {d after : List ℕ} {left : List ℤ} {n : ℕ} → Answers a d left after n → n ≡ length (take n after)
+written-length a = sym (wrote_length a.reply)
 
 pub written_fits : {a : Answer} {d after : List ℕ} {left : List ℤ} {n : ℕ} → Answers a d left after n → n ≤ length after
 written_fits {a} {d} w =

@@ -1,7 +1,7 @@
 -- Laws of turns over a range.
 use mathlib.Core.Path.{◌≡◌, refl, sym, ap, ◌∙◌}
 use mathlib.Core.Logic.{⊎_elim, dite}
-use Prim.Native.Nat.{ℕ, zero, suc, ◌+◌, ◌<◌, ◌≤◌}
+use Prim.Native.Nat.{ℕ, zero, suc, ◌+◌, ◌<◌, ◌≤◌, min}
 use native.Mathlib.Decide.{dec_lt}
 use native.Mathlib.Nat.{eq-or-lt_of_le}
 use native.Mathlib.Numerals.{add-one}
@@ -43,6 +43,14 @@ pub down-ind {ℓ ℓ'} : {A : Type ℓ} (P : ℕ → A → Type ℓ') (n : ℕ)
 unfolding down
 down-ind P zero f a z s = z
 down-ind P (suc n) f a z s = down-ind P n f (f n a) (s n a (omega arith) (rw add-one z)) (λ i x h. s i x (omega arith))
+
+pub least_zero : (f : ℕ → ℕ) → least 0 f ≡ f 0
+unfolding least
+least_zero f = refl
+
+pub least_more : (n : ℕ) (f : ℕ → ℕ) → least (n + 1) f ≡ min (least n f) (f (n + 1))
+unfolding least
+least_more n f = rw add-one
 
 -- the least is at most each, and one of them
 pub least-le : (n k : ℕ) (f : ℕ → ℕ) → k ≤ n → least n f ≤ f k

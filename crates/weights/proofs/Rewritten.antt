@@ -80,3 +80,16 @@ given-together s m n i a =
     sum_cong s.pairs (given_by s (together m n) i a) (λ k. given_by s m i a k + given_by s n i a k) (λ k h.
     omega (arith, if_both (eqb (s.first k) i) (m.row k a) (n.row k a), if_both (eqb (s.second k) i) (m.column k a) (n.column k a)))
     ∙ sum-add s.pairs (given_by s m i a) (given_by s n i a)
+
+-- nothing moved, and one rewriting after another
+pub rewritten_same : (s : Shape) (t : Costs) → Rewritten s t t no_moves no_moves
+rewritten_same s t = record { constant = refl; choices = λ i a p q o. refl; entries = λ k a c p q r o. refl }
+
+pub rewritten_then : {s : Shape} {t u v : Costs} {up down more back : Moves}
+    → Rewritten s t u up down → Rewritten s u v more back → Rewritten s t v (together up more) (together down back)
+rewritten_then {s} {t} {u} {v} {up} {down} {more} {back} x y =
+    record {
+      constant = omega (arith, x.constant, y.constant, sum-add s.trains up.lift more.lift, sum-add s.trains down.lift back.lift);
+      choices = λ i a p q o. omega (arith, x.choices i a p q o, y.choices i a p q o, given-together s up more i a, given-together s down back i a);
+      entries = λ k a c p q r o. omega (arith, x.entries k a c p q r o, y.entries k a c p q r o);
+    }

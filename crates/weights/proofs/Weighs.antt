@@ -12,8 +12,10 @@ use Rattle.certificates.specs.Rival.{scaled}
 use Rattle.certificates.proofs.Agrees.{Agrees}
 use Rattle.certificates.proofs.Rivals.{choices_add, choices_scale, weighted-scaled}
 use Rattle.weights.specs.Weights.{Spares, plan_weights}
+use Rattle.weights.specs.Moves.{Moves, Rewritten}
 use Rattle.weights.specs.Rival.{Amounts, Leaves, LiftsAtMost}
 use Rattle.weights.proofs.Sums.{choices_spared, pairs-spared}
+use Rattle.weights.proofs.Rewritten.{rewritten_weighted}
 use Rattle.weights.proofs.Plans.{plan_agrees, plan_spares, plan_weighted}
 use Rattle.weights.proofs.Ceilings.{moved_ceiling}
 use Rattle.weights.proofs.Alike.{alike_agrees, alike_spares, alike_weighted}
@@ -58,6 +60,10 @@ add_weighs s d m h t x =
         mul-add d (weighted s w h) (over_choices s w m),
       );
     }
+
+-- as every rewriting leaves them
+pub rewritten_weighs : {s : Shape} {d : ℕ} {h t u : Costs} {up down : Moves} → Shaped s → Weighs s d h t → Rewritten s t u up down → Weighs s d h u
+rewritten_weighs {s} {t = t} {u} {up} {down} sh x r = record { weighs = λ w ag sp. rewritten_weighted s sh w ag sp t u up down r ∙ x.weighs w ag sp }
 
 -- by a shape that agrees where it is used
 pub alike_weighs : {s u : Shape} {d : ℕ} {h t : Costs} → AlikeShapes s u → Shaped s → Weighs s d h t → Weighs u d h t
