@@ -1,4 +1,4 @@
-// Runs of fields of equal width, put behind a list of fixed capacity: what a caller stores.
+// Runs of fields of equal width, put behind a list of fixed capacity or into a lent slice: what a caller stores.
 ghost use Rattle.std.specs.Prelude.{◌≡◌, true, ◌++◌, ◌+◌, ◌*◌, ◌≤◌, length};
 ghost use Rattle.frames.specs.Fields.{max_width};
 ghost use Rattle.frames.specs.Frames.{framed};
@@ -42,5 +42,27 @@ pub fn decode_signed<const N: usize>(
     for k in 0..count {
         let field = fields::field(line, at + width * k, width);
         out.push(fields::signed(width, field));
+    }
+}
+
+// A run of fields of `width` bytes from byte `at` on, into a lent slice: as many fields as the slice has places.
+#[tactic(auto, using(theory::proofs::Sum::part_inside))]
+pub fn fill(line: &[u8], at: usize, width: usize, out: &mut [u64])
+    requires { (2 * (at + width * length out.old) ≤ length line.now) × (width ≤ max_width) }
+    ensures { out.new ≡ run_of line.now at width (length out.old) }
+{
+    for k in 0..out.len() {
+        out[k] = fields::field(line, at + width * k, width);
+    }
+}
+
+// The same of fields in two's complement.
+#[tactic(auto, using(theory::proofs::Sum::part_inside, crate::proofs::Bytes::framed_whole, crate::proofs::Widths::field_below))]
+pub fn fill_signed(line: &[u8], at: usize, width: usize, out: &mut [i64])
+    requires { (framed line.now ≡ true) × (2 * (at + width * length out.old) ≤ length line.now) × (width ≤ max_width) }
+    ensures { out.new ≡ signed_run_of line.now at width (length out.old) }
+{
+    for k in 0..out.len() {
+        out[k] = fields::signed(width, fields::field(line, at + width * k, width));
     }
 }
