@@ -96,14 +96,24 @@ fn read_entries(study: HeldStudy<'_>, entries: &mut EntryCosts)
     }
 }
 
-// The numbers of a held study. Its lists are filled in place, since so long a list is copied where it is returned.
-pub fn numbers(study: HeldStudy<'_>) -> LoadNumbers
-    ensures { numbers_given result ≡ saved_numbers study.entry.numbers.now }
+// Lists the numbers of a held study in lists that are lent, whatever these held.
+#[tactic(auto, unfolding(operations::specs::Saved::saved_numbers), using(tables::proofs::Study::scale_range))]
+pub fn list(study: HeldStudy<'_>, numbers: &mut LoadNumbers)
+    ensures { numbers_given numbers.new ≡ saved_numbers study.entry.numbers.now }
 {
-    let mut numbers = LoadNumbers::new(block::scale(study.numbers));
+    numbers.scale = block::scale(study.numbers);
     read_sizes(study, &mut numbers.sizes);
     read_choices(study, &mut numbers.choices);
     read_pairs(study, &mut numbers.pairs);
     read_entries(study, &mut numbers.entries);
+}
+
+// The numbers of a held study. Where they need not be returned, `list` saves clearing and copying such long lists.
+#[tactic(auto, using(tables::proofs::Study::scale_range))]
+pub fn numbers(study: HeldStudy<'_>) -> LoadNumbers
+    ensures { numbers_given result ≡ saved_numbers study.entry.numbers.now }
+{
+    let mut numbers = LoadNumbers::new(block::scale(study.numbers));
+    list(study, &mut numbers);
     numbers
 }

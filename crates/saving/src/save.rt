@@ -6,6 +6,7 @@ ghost use Rattle.replies.specs.Wrote.{Wrote};
 
 use crate::write;
 use operations::given_study::GivenStudy;
+use operations::load_numbers::LoadNumbers;
 use tables::block;
 use tables::held_study::HeldStudy;
 
@@ -21,9 +22,12 @@ pub fn saved_length(study: HeldStudy<'_>) -> usize
 }
 
 // Writes the saved line to the front of a buffer that holds it, and answers how many characters it has.
+// The numbers are listed where they lie: returned by value, their lists would be cleared twice, and copied.
 pub fn save(study: HeldStudy<'_>, reply: &mut [u8]) -> usize
     requires { length (load_digits (saved_numbers study.numbers.now)) ≤ length reply.old }
     ensures { Wrote reply.old (load_digits (saved_numbers study.entry.numbers.now)) reply.new result }
 {
-    write::write_load(reply, GivenStudy::known(&numbers::numbers(study)))
+    let mut numbers = LoadNumbers::new(block::scale(study.numbers));
+    numbers::list(study, &mut numbers);
+    write::write_load(reply, GivenStudy::known(&numbers))
 }
