@@ -2,26 +2,45 @@
 ghost use Rattle.std.specs.Prelude.{◌≡◌, map, ℕ, ◌*◌, ◌/◌, ◌%◌, ◌^◌, ◌<◌, ◌≤◌, length, replicate};
 ghost use Rattle.theory.specs.Lists.{nth, list_of};
 ghost use Rattle.tables.specs.Block.{max_trains, max_pairs};
-ghost use Rattle.operations.specs.Given.{numbers_given};
-ghost use Rattle.clauses.specs.Given.{clauses_given};
 ghost use Rattle.clauses.specs.Clauses.{InLimits, clause_choices, clause_entries, max_codes, max_cells, choice_cost_at, entry_cost_at, numbers_from, costs_within, sums_within};
+ghost use Rattle.clauses.specs.Given.{clauses_given, numbers_made};
 ghost use Rattle.clauses.specs.Outcomes.{clauses_outcome, clauses_block};
 
-use crate::charges::Cells;
+use crate::charges::{Cells, Charges};
 use crate::clause::Clause;
 use crate::clear_clauses::ClearClauses;
 use crate::literals::{CHOICES, ENTRIES};
 use crate::{charges, literals};
 use arrayvec::ArrayVec;
-use operations::given_study::GivenStudy;
+use operations::lent_study::LentStudy;
 use operations::load;
-use operations::load_numbers::{ChoiceCosts, EntryCosts, LoadNumbers, Pairs, Sizes};
+use operations::load_numbers::{Pairs, Sizes};
 use refusals::{Refusal, Verdict};
 use tables::block::{Block, Pair, Places};
 use units::{Points, Scale};
 
 // The size of every train.
 const SIZE: u64 = CHOICES as u64;
+
+// How many choices all trains have at most.
+const ALL_CHOICES: usize = CHOICES * Block::TRAINS;
+// How many entries all pairs have at most.
+const ALL_ENTRIES: usize = ENTRIES * Block::PAIRS;
+
+// The costs of the choices, by train then choice.
+type ChoiceCosts = ArrayVec<u64, ALL_CHOICES>;
+// The costs of each pair, 'a outer, b inner'.
+type EntryCosts = ArrayVec<u64, ALL_ENTRIES>;
+
+// The numbers of a load of clauses, in lists of no more room than they take.
+#[derive(Drop)]
+struct ClauseNumbers {
+    scale: Scale,
+    sizes: Sizes,
+    choices: ChoiceCosts,
+    pairs: Pairs,
+    entries: EntryCosts,
+}
 
 // The sizes of n trains.
 fn list_sizes(n: usize) -> Sizes
@@ -93,11 +112,11 @@ fn list_entries(cells: &Cells, codes: &[usize]) -> EntryCosts
 
 // The numbers of a load of n trains, from the cells and the codes.
 // n and the codes are bounded here and in the lists above, in a clause each: a struct with its constructor would be longer than the clauses.
-fn numbers(n: usize, scale: Scale, cells: &Cells, codes: &[usize]) -> LoadNumbers
+fn numbers(n: usize, scale: Scale, cells: &Cells, codes: &[usize]) -> ClauseNumbers
     requires { (n ≤ max_trains) × (length codes.now ≤ max_pairs) × ((k : ℕ) → k < length codes.now → nth codes.now k < max_codes) }
-    ensures { numbers_given result ≡ numbers_from n scale (nth cells.now) codes.now }
+    ensures { numbers_made result ≡ numbers_from n scale (nth cells.now) codes.now }
 {
-    LoadNumbers {
+    ClauseNumbers {
         scale,
         sizes: list_sizes(n),
         choices: list_choices(n, cells),
@@ -115,8 +134,8 @@ fn costs_within(costs: &[u64]) -> bool
 
 // Whether no sum of either list is above its limit.
 #[tactic(auto, unfolding(crate::specs::Clauses::sums_within))]
-fn sums_within(numbers: &LoadNumbers) -> bool
-    ensures { result ≡ sums_within (numbers_given numbers.now) }
+fn sums_within(numbers: &ClauseNumbers) -> bool
+    ensures { result ≡ sums_within (numbers_made numbers.now) }
 {
     costs_within(&numbers.choices) && costs_within(&numbers.entries)
 }
@@ -127,8 +146,9 @@ pub fn load_clauses(block: &mut Places, n: usize, scale: Scale, clauses: &[Claus
     ensures value { result ≡ clauses_outcome n scale (clauses_given clauses.now) }
     ensures block_after { block.new ≡ clauses_block n scale (clauses_given clauses.now) block.old }
 {
+    let mut charges = Charges::new();
     let clear = ClearClauses::known(clauses);
-    let charges = charges::charge(clear);
+    charges::charge_in(clear, &mut charges.cells, &mut charges.codes);
     if Block::PAIRS < charges.codes.len() {
         return Err(Refusal::PairsAbove);
     }
@@ -136,6 +156,13 @@ pub fn load_clauses(block: &mut Places, n: usize, scale: Scale, clauses: &[Claus
     if !sums_within(&numbers) {
         return Err(Refusal::CostAbove);
     }
-    load::load(block, GivenStudy::known(&numbers));
+    let lent = LentStudy::known(
+        numbers.scale,
+        &numbers.sizes,
+        &numbers.choices,
+        &numbers.pairs,
+        &numbers.entries,
+    );
+    load::load_lent(block, &lent);
     Ok(())
 }

@@ -1,9 +1,10 @@
 // The numbers of a load and the clauses of a study, read off an accepted line: what a caller stores.
 #![tactic(auto)]
 
-ghost use Rattle.std.specs.Prelude.{◌≡◌, ◌+◌, ◌<◌, ◌≤◌};
+ghost use Rattle.std.specs.Prelude.{◌≡◌, ◌+◌, ◌<◌, ◌≤◌, []};
 ghost use Rattle.refusals.specs.Verdicts.{Fine};
 ghost use Rattle.tables.specs.LineLimits.{max_clauses};
+ghost use Rattle.tables.specs.Numbers.{numbers as listed};
 ghost use Rattle.frames.specs.Digits.{bytes};
 ghost use Rattle.operations.specs.Given.{numbers_given};
 ghost use Rattle.clauses.specs.Given.{clauses_given};
@@ -24,13 +25,12 @@ use lines::field::Field;
 use lines::request::{Clauses, Load};
 use operations::load_numbers::LoadNumbers;
 
-// The numbers of an accepted load.
-pub fn decode_load(frame: Frame<'_>, q: Load) -> LoadNumbers
-    requires { (load_verdict frame.line.now ≡ Fine) × (request.Load q ≡ load_request frame.line.now) }
-    ensures { numbers_given result ≡ numbers_of frame.entry.line.now }
+// The numbers of an accepted load, in lists that are lent empty, so that they are not copied.
+pub fn decode_load_in(frame: Frame<'_>, q: Load, numbers: &mut LoadNumbers)
+    requires { (load_verdict frame.line.now ≡ Fine) × (request.Load q ≡ load_request frame.line.now) × (numbers_given numbers.old ≡ listed q.scale [] [] [] [] []) }
+    ensures { numbers_given numbers.new ≡ numbers_of frame.entry.line.now }
 {
     let line = frame.line;
-    let mut numbers = LoadNumbers::new(q.scale);
     runs::decode(
         line,
         q.sizes.at,
@@ -59,6 +59,15 @@ pub fn decode_load(frame: Frame<'_>, q: Load) -> LoadNumbers
         );
         at = load::pair_end(at, count);
     }
+}
+
+// The numbers of an accepted load.
+pub fn decode_load(frame: Frame<'_>, q: Load) -> LoadNumbers
+    requires { (load_verdict frame.line.now ≡ Fine) × (request.Load q ≡ load_request frame.line.now) }
+    ensures { numbers_given result ≡ numbers_of frame.entry.line.now }
+{
+    let mut numbers = LoadNumbers::new(q.scale);
+    decode_load_in(frame, q, &mut numbers);
     numbers
 }
 
@@ -87,14 +96,22 @@ fn clause(frame: Frame<'_>, k: usize) -> Clause
     }
 }
 
+// The clauses of an accepted line, in a list that is lent empty, so that it is not copied.
+pub fn decode_clauses_in(frame: Frame<'_>, clauses: &mut ArrayVec<Clause, { Clauses::MOST }>)
+    requires { (clauses_verdict frame.line.now ≡ Fine) × (clauses.old.items ≡ []) }
+    ensures { clauses_given clauses.new.items ≡ clauses_of frame.entry.line.now }
+{
+    for k in 0..clause_fields::COUNT.number_in(frame.line) as usize {
+        clauses.push(clause(frame, k));
+    }
+}
+
 // The clauses of an accepted line.
 pub fn decode_clauses(frame: Frame<'_>) -> ArrayVec<Clause, { Clauses::MOST }>
     requires { clauses_verdict frame.line.now ≡ Fine }
     ensures { clauses_given result.items ≡ clauses_of frame.entry.line.now }
 {
     let mut clauses = ArrayVec::new();
-    for k in 0..clause_fields::COUNT.number_in(frame.line) as usize {
-        clauses.push(clause(frame, k));
-    }
+    decode_clauses_in(frame, &mut clauses);
     clauses
 }

@@ -3,6 +3,7 @@
 
 pub mod add;
 pub mod given_study;
+pub mod lent_study;
 pub mod load;
 pub mod load_numbers;
 pub mod set_order;

@@ -5,10 +5,11 @@ ghost use Rattle.tables.specs.Block.{block_length, max_trains, max_pairs};
 ghost use Rattle.tables.specs.WellFormed.{fresh_block};
 ghost use Rattle.tables.specs.Counts.{rows_of, columns_of, pair_entries, entries_before};
 ghost use Rattle.tables.specs.Numbers.{numbers_shape, forbidden_cost, is_cost};
-ghost use Rattle.operations.specs.Given.{numbers_given};
+ghost use Rattle.operations.specs.Given.{numbers_given, numbers_lent};
 ghost use Rattle.operations.specs.Load.{SizesIn, PairsIn, CostsIn, head_loaded, sizes_loaded, pairs_loaded, cost_loaded, run_loaded, choices_loaded, pair_loaded, entries_loaded, order_loaded, loaded_block};
 
 use crate::given_study::GivenStudy;
+use crate::lent_study::LentStudy;
 use tables::block::{Block, Pair, Places};
 use tables::{block, places};
 use units::{Points, Scale};
@@ -85,57 +86,45 @@ fn load_run(b: &mut Places, scale: Scale, costs: &[u64], loaded: usize, held: us
 }
 
 // Stores each train's costs.
-fn load_choices(b: &mut Places, given: GivenStudy<'_>)
-    ensures { b.new ≡ choices_loaded given.entry.numbers.now.scale (numbers_shape (numbers_given given.entry.numbers.now)) given.entry.numbers.now.choices.items b.old }
+fn load_choices(b: &mut Places, given: &LentStudy<'_>)
+    ensures { b.new ≡ choices_loaded given.now.scale (numbers_shape (numbers_lent given.now)) given.now.choices.now b.old }
 {
     let mut start = 0;
-    for i in 0..given.numbers.sizes.len() {
-        let end = start + given.numbers.sizes[i] as usize;
+    for i in 0..given.sizes.len() {
+        let end = start + given.sizes[i] as usize;
         let loaded = block::choice_place(Block::LOADED_CHOICES_FROM, i, 0);
         let held = block::choice_place(Block::HELD_CHOICES_FROM, i, 0);
-        load_run(
-            b,
-            given.numbers.scale,
-            &given.numbers.choices[start..end],
-            loaded,
-            held,
-        );
+        load_run(b, given.scale, &given.choices[start..end], loaded, held);
         start = end;
     }
 }
 
 // Stores the costs of pair k, which begin at `from`, row by row: where they end.
-fn load_pair(b: &mut Places, given: GivenStudy<'_>, k: usize, from: usize) -> usize
-    requires { (k < length given.numbers.now.pairs.items) × (from ≡ entries_before (numbers_shape (numbers_given given.numbers.now)) k) }
-    ensures value { result ≡ from + pair_entries (numbers_shape (numbers_given given.entry.numbers.now)) k }
-    ensures block_after { b.new ≡ pair_loaded given.entry.numbers.now.scale given.entry.numbers.now.entries.items from (rows_of (numbers_shape (numbers_given given.entry.numbers.now)) k) (columns_of (numbers_shape (numbers_given given.entry.numbers.now)) k) k b.old }
+fn load_pair(b: &mut Places, given: &LentStudy<'_>, k: usize, from: usize) -> usize
+    requires { (k < length given.now.pairs.now) × (from ≡ entries_before (numbers_shape (numbers_lent given.now)) k) }
+    ensures value { result ≡ from + pair_entries (numbers_shape (numbers_lent given.now)) k }
+    ensures block_after { b.new ≡ pair_loaded given.now.scale given.now.entries.now from (rows_of (numbers_shape (numbers_lent given.now)) k) (columns_of (numbers_shape (numbers_lent given.now)) k) k b.old }
 {
-    let pair = given.numbers.pairs[k];
-    let rows = given.numbers.sizes[pair.first] as usize;
-    let columns = given.numbers.sizes[pair.second] as usize;
+    let pair = given.pairs[k];
+    let rows = given.sizes[pair.first] as usize;
+    let columns = given.sizes[pair.second] as usize;
     let mut start = from;
     for a in 0..rows {
         let end = start + columns;
         let loaded = block::entry_place(Block::LOADED_ENTRIES_FROM, k, a, 0);
         let held = block::entry_place(Block::HELD_ENTRIES_FROM, k, a, 0);
-        load_run(
-            b,
-            given.numbers.scale,
-            &given.numbers.entries[start..end],
-            loaded,
-            held,
-        );
+        load_run(b, given.scale, &given.entries[start..end], loaded, held);
         start = end;
     }
     start
 }
 
 // Stores each pair's costs.
-fn load_entries(b: &mut Places, given: GivenStudy<'_>)
-    ensures { b.new ≡ entries_loaded given.entry.numbers.now.scale (numbers_shape (numbers_given given.entry.numbers.now)) given.entry.numbers.now.entries.items b.old }
+fn load_entries(b: &mut Places, given: &LentStudy<'_>)
+    ensures { b.new ≡ entries_loaded given.now.scale (numbers_shape (numbers_lent given.now)) given.now.entries.now b.old }
 {
     let mut start = 0;
-    for k in 0..given.numbers.pairs.len() {
+    for k in 0..given.pairs.len() {
         start = load_pair(b, given, k, start);
     }
 }
@@ -150,19 +139,29 @@ fn load_order(b: &mut Places, n: usize)
     }
 }
 
+// Loads a problem from lists that are lent, whatever stood in the block.
+pub fn load_lent(block: &mut Places, given: &LentStudy<'_>)
+    ensures { block.new ≡ loaded_block (numbers_lent given.now) }
+{
+    load_head(block, given.sizes.len(), given.scale, given.pairs.len());
+    load_sizes(block, given.sizes);
+    load_pairs(block, given.pairs);
+    load_choices(block, given);
+    load_entries(block, given);
+    load_order(block, given.sizes.len());
+}
+
 // Loads a problem, whatever stood in the block.
 pub fn load(block: &mut Places, given: GivenStudy<'_>)
     ensures { block.new ≡ loaded_block (numbers_given given.entry.numbers.now) }
 {
-    load_head(
-        block,
-        given.numbers.sizes.len(),
-        given.numbers.scale,
-        given.numbers.pairs.len(),
+    let numbers = given.numbers;
+    let lent = LentStudy::known(
+        numbers.scale,
+        &numbers.sizes,
+        &numbers.choices,
+        &numbers.pairs,
+        &numbers.entries,
     );
-    load_sizes(block, &given.numbers.sizes);
-    load_pairs(block, &given.numbers.pairs);
-    load_choices(block, given);
-    load_entries(block, given);
-    load_order(block, given.numbers.sizes.len());
+    load_lent(block, &lent);
 }

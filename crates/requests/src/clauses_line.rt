@@ -6,6 +6,7 @@ ghost use Rattle.requests.specs.Answer.{requested};
 ghost use Rattle.requests.specs.Wrote.{Answers, LoadsClauses};
 
 use crate::outcome::write_outcome;
+use arrayvec::ArrayVec;
 use clauses::loads;
 use frames::frame::Frame;
 use lines::kind::Kind;
@@ -19,7 +20,8 @@ pub fn answer_clauses(line: &[u8], block: &mut Places, reply: &mut [u8], q: Clau
     requires { (longest_fixed ≤ length reply.old) × LoadsClauses line.now q }
     ensures { Answers (requested (clauses_request q) line.now block.old) reply.old block.new reply.new result }
 {
-    let clauses = decoding::decode_clauses(Frame::known(line));
+    let mut clauses = ArrayVec::new();
+    decoding::decode_clauses_in(Frame::known(line), &mut clauses);
     let outcome = loads::load_clauses(block, q.trains, q.scale, clauses.as_slice());
     write_outcome(reply, Kind::Clauses, outcome, block)
 }

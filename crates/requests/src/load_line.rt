@@ -10,6 +10,7 @@ use lines::kind::Kind;
 use lines::request::Load;
 use operations::given_study::GivenStudy;
 use operations::load;
+use operations::load_numbers::LoadNumbers;
 use replies::replies::write_bound;
 use tables::block::Places;
 use tables::held_study::HeldStudy;
@@ -21,7 +22,8 @@ pub fn answer_load(line: &[u8], block: &mut Places, reply: &mut [u8], q: Load) -
     requires { (longest_fixed ≤ length reply.old) × Loads line.now q }
     ensures { Answers (requested (load_of q) line.now block.old) reply.old block.new reply.new result }
 {
-    let numbers = decoding::decode_load(Frame::known(line), q);
+    let mut numbers = LoadNumbers::new(q.scale);
+    decoding::decode_load_in(Frame::known(line), q, &mut numbers);
     load::load(block, GivenStudy::known(&numbers));
     write_bound(reply, Kind::Load, HeldStudy::known(block))
 }

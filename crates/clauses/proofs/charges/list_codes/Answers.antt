@@ -14,7 +14,7 @@ use Rattle.clauses.proofs.charges.list_codes.Goals.{then-o+then-marks-o, else-o,
 use Rattle.clauses.proofs.charges.list_codes.Goals as goal
 
 pub loop-o-init : goal.loop-o-init
-loop-o-init c = c.new-codes.ensures ∙ sym (codes_begun (marked_pair c.args.marks.now))
+loop-o-init c = c.requires ∙ sym (codes_begun (marked_pair c.args.marks.now))
 
 pub push-requires : goal.push-requires
 push-requires c =

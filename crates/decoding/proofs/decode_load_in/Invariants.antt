@@ -4,7 +4,7 @@ use Rattle.tables.specs.Numbers.{numbers}
 use Rattle.operations.specs.Given.{numbers_given}
 use Rattle.lines.specs.Layout.{load_trains, load_scale, load_size, choice_count, load_first, load_second, numbers_in, choice_field, pair_at}
 use Rattle.decoding.specs.Numbers.{entries_of}
-use Rattle.decoding.proofs.decode_load.Given as goal
+use Rattle.decoding.proofs.decode_load_in.Given as goal
 
 abbrev pub invariant-loop-k : goal.invariant-loop-k
 invariant-loop-k l =

@@ -23,8 +23,8 @@ use Rattle.decoding.proofs.Entries.{entries_none, entries_more, pair_inside}
 use Rattle.decoding.proofs.LoadRange.{load_in_range}
 use Rattle.decoding.proofs.Size.{entries_most}
 use Rattle.decoding.proofs.Pushed.{pushed, item_count}
-use Rattle.decoding.proofs.decode_load.Goals.{In-loop-k}
-use Rattle.decoding.proofs.decode_load.Goals as goal
+use Rattle.decoding.proofs.decode_load_in.Goals.{In-loop-k}
+use Rattle.decoding.proofs.decode_load_in.Goals as goal
 
 -- where the long fields of a load line stand
 abbrev runs_of : List ℕ → Load
@@ -49,7 +49,7 @@ decode-requires c =
     let q = asked l c.args.q c.requires.1 in
     let at = ap (λ (r : Load). r.sizes.at) q in
     let count = ap (λ (r : Load). r.sizes.count) q in
-    let none = ap (λ (x : Numbers). length x.sizes) c.new-numbers.ensures in
+    let none = ap (λ (x : Numbers). length x.sizes) c.requires.2 in
     (omega arith, ((omega (arith, at, count, s.there), omega arith), omega (arith, none, count, s.trains)))
 
 pub decode-requires-2 : goal.decode-requires-2
@@ -59,7 +59,7 @@ decode-requires-2 c =
     let q = asked l c.args.q c.requires.1 in
     let at = ap (λ (r : Load). r.choices.at) q in
     let count = ap (λ (r : Load). r.choices.count) q in
-    let none = ap (λ (x : Numbers). length x.choices) c.new-numbers.ensures in
+    let none = ap (λ (x : Numbers). length x.choices) c.requires.2 in
     (omega arith, ((omega (arith, at, count, count_there l c.requires.0), omega arith), omega (arith, none, count, choice_count_most s)))
 
 pub invariant_of-sized : goal.invariant_of-sized
@@ -70,7 +70,7 @@ unfolding list_from
 loop-k-init c =
     let l = c.args.frame.line.now in
     let q = asked l c.args.q c.requires.1 in
-    let n = c.new-numbers.ensures in record {
+    let n = c.requires.2 in record {
       at = ap (λ (r : Load). r.pairs.at) q ∙ sym (pair_start l);
       numbers = rw (
         c.decode.ensures,

@@ -10,15 +10,15 @@ use Rattle.lines.specs.Layout.{clause_count, clause_first, clause_second, clause
 use Rattle.kinds.proofs.ClausesAccepted.{clauses_fine}
 use Rattle.decoding.specs.Clauses.{clauses_of}
 use Rattle.decoding.proofs.Pushed.{pushed, item_count}
-use Rattle.decoding.proofs.decode_clauses.Goals.{In-loop-k}
-use Rattle.decoding.proofs.decode_clauses.Goals as goal
+use Rattle.decoding.proofs.decode_clauses_in.Goals.{In-loop-k}
+use Rattle.decoding.proofs.decode_clauses_in.Goals as goal
 
 pub number_in-k-end-requires : goal.number_in-k-end-requires
-number_in-k-end-requires c = omega (arith, (clauses_fine c.args.frame.line.now c.requires).there)
+number_in-k-end-requires c = omega (arith, (clauses_fine c.args.frame.line.now c.requires.0).there)
 
 pub loop-k-init : goal.loop-k-init
 unfolding list_from
-loop-k-init c = rw c.new-clauses.ensures
+loop-k-init c = rw c.requires.1
 
 -- there is another clause
 more : (c : In-loop-k) → c.loop-k.k < clause_count c.args.frame.line.now
@@ -26,7 +26,7 @@ more c = omega arith
 
 pub clause-requires : goal.clause-requires
 clause-requires c =
-    let f = clauses_fine c.args.frame.line.now c.requires in
+    let f = clauses_fine c.args.frame.line.now c.requires.0 in
     let h = more (goal.at.clause-requires c).In-loop-k in
     (omega (arith, f.few), (f.clause c.loop-k.k h).there)
 
@@ -35,7 +35,7 @@ push-requires c =
     let l = c.args.frame.line.now in
     let n : length c.loop-k.clauses.items ≡ c.loop-k.k =
     item_count (λ (x : Clause). x.weight) (clause_weight l) c.loop-k.clauses.items c.loop-k.k (ap (λ (x : Clauses). x.weights) c.loop-k.invariant) in
-    (omega arith, omega (arith, (clauses_fine l c.requires).few))
+    (omega arith, omega (arith, (clauses_fine l c.requires.0).few))
 
 pub loop-k-preserved : goal.loop-k-preserved
 loop-k-preserved c =

@@ -7,10 +7,10 @@ use Rattle.clauses.specs.Clauses.{count}
 use Rattle.clauses.specs.Given.{clauses_given}
 use Rattle.clauses.proofs.Given.{given_count, given_first, given_second, given_weight, given_cell}
 use Rattle.clauses.proofs.Turns.{charged_none, charged_more, cost_most, marked_none, marked_more, marked_codes}
-use Rattle.clauses.proofs.charges.charge.Goals as goal
+use Rattle.clauses.proofs.charges.charge_in.Goals as goal
 
 pub loop-clause-init : goal.loop-clause-init
-loop-clause-init c = (charged_none (clauses_given c.args.clauses.items.now), marked_none (clauses_given c.args.clauses.items.now))
+loop-clause-init c = (rw c.requires.0 (charged_none (clauses_given c.args.clauses.items.now)), marked_none (clauses_given c.args.clauses.items.now))
 
 pub clause_cell-cell-requires : goal.clause_cell-cell-requires
 clause_cell-cell-requires c =
