@@ -53,7 +53,7 @@ extern "C" {
  * threads may call at the same time with different blocks and different buffers.
  *
  * Nothing is promised about time or memory. A search makes at most as many tries as its budget says, 10,000,000 at most. No memory is asked for but the
- * stack; a line of clauses was measured to use 157 kB of it, the most of all kinds, and a line over train radio uses 20 kB more than its plain form. */
+ * stack; a shift was measured to use 61 kB of it, the most of all kinds, and a line over train radio uses 20 kB more than its plain form. */
 size_t junction_answer(const uint8_t *line, size_t line_length, int64_t *block, size_t block_length, uint8_t *reply, size_t reply_length);
 
 #ifdef __cplusplus
